@@ -1,0 +1,27 @@
+-- Least and greatest, ranges and middles of doubles (document 01, module Floats). Definitions only.
+use mathlib.Core.Bool.{Bool, false, cond}
+use lib.Ieee.{Float, binary64, add, mul, le, eq, ofBits}
+
+-- Rust's `f64::min` and `f64::max`: a NaN is skipped. Of two equal numbers, as the zeros, the first; the Rust leaves the sign of a zero open here.
+unfoldable pub least : Float → Float → Float
+least a b = cond (le a b) a (cond (eq b b) b a)
+
+unfoldable pub greatest : Float → Float → Float
+greatest a b = cond (le b a) a (cond (eq b b) b a)
+
+-- from lo to hi, ends included; no NaN is
+unfoldable pub within : Float → Float → Float → Bool
+within lo hi x = cond (le lo x) (le x hi) false
+
+abbrev pub zero64 : Float
+zero64 = ofBits binary64 0x0000_0000_0000_0000
+
+abbrev pub one64 : Float
+one64 = ofBits binary64 0x3ff0_0000_0000_0000
+
+abbrev pub half64 : Float
+half64 = ofBits binary64 0x3fe0_0000_0000_0000
+
+-- 0.5 × (lo + hi), each operation rounded: the middle of a range, and the mean of neighbours in a net
+unfoldable pub middle : Float → Float → Float
+middle lo hi = mul binary64 half64 (add binary64 lo hi)

@@ -1,0 +1,43 @@
+"""The papers and the repository agree: each crate stands in docs/ARCHITECTURE.md, each must-fail edit has its two lines and fits its file once,
+definitions stand in specs/ and proofs in proofs/, and no paper names a package host."""
+import pathlib
+import re
+import sys
+
+ROOT = pathlib.Path(__file__).resolve().parent.parent
+bad = []
+crates = [
+    line.split(":")[0].strip()
+    for line in (ROOT / "crates.txt").read_text().splitlines()
+    if line.strip() and not line.startswith("#")
+]
+architecture = (ROOT / "docs/ARCHITECTURE.md").read_text()
+for name in crates:
+    if f"`{name}`" not in architecture:
+        bad.append(f"docs/ARCHITECTURE.md does not name the crate {name}")
+for folder in sorted((ROOT / "crates").iterdir()):
+    if folder.name not in crates:
+        bad.append(f"crates.txt does not list {folder.name}")
+for edit in sorted(ROOT.glob("crates/*/must-fail/*.edit")):
+    text = edit.read_text()
+    lines = text.splitlines()
+    file = next((l.split(":", 1)[1].strip() for l in lines if l.startswith("file:")), None)
+    olds = [l[4:].strip() for l in lines if l.startswith("old:")]
+    news = [l[4:].strip() for l in lines if l.startswith("new:")]
+    if not file or not olds or len(olds) != len(news):
+        bad.append(f"{edit}: wants a file, and an old and a new line")
+        continue
+    source = (edit.parent.parent / file).read_text()
+    for old, new in zip(olds, news):
+        if source.count(old) != 1:
+            bad.append(f"{edit}: its old line occurs {source.count(old)} times in {file}")
+        if old == new:
+            bad.append(f"{edit}: changes nothing")
+for paper in ["README.md", *sorted(str(p.relative_to(ROOT)) for p in ROOT.glob("docs/*.md"))]:
+    text = (ROOT / paper).read_text()
+    if re.search(r"https?://", text):
+        bad.append(f"{paper} names a host")
+for line in bad:
+    print(line)
+print(f"papers: {len(crates)} crates, {len(bad)} faults")
+sys.exit(1 if bad else 0)
