@@ -1,85 +1,118 @@
--- The patterns that the digits do not serve: zeros, negative numbers, infinities. Assumes nothing.
-use mathlib.Core.Path.{_≡_, refl, sym, ap, _∙_, subst}
-use mathlib.Core.Logic.{dite, _⊎_, inl, inr, ⊎-elim}
+-- The patterns that have no digits to take the root of, for every format: zeros, negative numbers, infinities, NaN. Assumes nothing.
+use mathlib.Core.Path.{_≡_, refl, sym, ap, _∙_}
 use mathlib.Core.Bool.{Bool, true, false, cond, true≢false}
 use Prim.Native.Nat.{ℕ, zero, suc, _+_, _*_, _-_, _/_, _%_, _^_, _≤_, _<_}
-use native.Mathlib.Nat.{mul-pos, mul-one, zero-mul, eq-zero-or-pos}
-use native.Mathlib.Decide.{decLe}
+use native.Mathlib.Nat.{mul-pos, pos-of-ne-zero, zero-lt-suc, zero-mul, mod-mod-of-dvd, dvd-mul-right, div-add-mod', div-eq-of-lt-le, zero-div, zero-mod, lt-of-lt-of-le}
 use native.Mathlib.Omega.{arith}
-use lib.Dec.{T, leb, ltb, eqb}
+use lib.Dec.{T, leb, eqb}
+use lib.IntN.{pos}
 use lib.Pow.{pow-pos}
-use lib.Ieee.{Float, nan, inf, fin, binary64, up, down, odd, units, size, ofBits, ofFields, toBits, fits}
+use lib.Ieee.{Float, nan, inf, fin, Format, prec, emax, low, hid, ones, top, up, odd, units, size, ofBits, ofFields, toBits, fits}
 use lib.Ieee.Fits.{down-pos}
-use lib.Ieee.Bits.{ofBits-toBits, toBits-lt}
+use lib.Ieee.Bits.{ofBits-toBits}
 use lib.Ieee.Exact.{HasValue, odd-sign}
-use borrow.Author.Tests.{le-leb, lt-leb, eq-eqb, ne-eqb}
-use Rattle.roots.specs.Root.{rootOf, rootUnits, unitsOf, isqrt, rounded}
-use Rattle.roots.proofs.Glue.{root-of-value, pattern-value}
+use borrow.Author.Tests.{le-leb, lt-ltb, eq-eqb, ne-eqb}
+use Rattle.roots.specs.Root.{rootIn, rootUnits, rounded}
+use Rattle.roots.proofs.Whole.{Root}
+use Rattle.roots.proofs.Patterns.{plain, hid-pos}
+use Rattle.roots.proofs.Join.{whole, is-root}
 
-neg-root : (x : Float) (a c : ℕ) → HasValue x true a c → 0 < a → rootOf x ≡ nan
-unfolding rootOf
-neg-root nan a c h p = absurd h
-neg-root (inf s) a c h p = absurd h
-neg-root (fin false m e) a c h p = absurd (true≢false (sym (h .0)))
-neg-root (fin true m e) a c h p =
+-- ---- negative
+
+neg-root : (f : Format) (x : Float) (a c : ℕ) → HasValue x true a c → 0 < a → rootIn f x ≡ nan
+unfolding rootIn
+neg-root f nan a c h p = absurd h
+neg-root f (inf s) a c h p = absurd h
+neg-root f (fin false m e) a c h p = absurd (true≢false (sym (h .0)))
+neg-root f (fin true m e) a c h p =
     let g : m ≡ 0 → ⊥ = (λ z. let l : m * up e * c ≡ 0 = ap (λ (k : ℕ). k * up e * c) z ∙ ap (λ (k : ℕ). k * c) (zero-mul (up e)) ∙ zero-mul c in
-          let w = mul-pos p (down-pos e) in omega (arith, h .1)) in
+    let w = mul-pos p (down-pos e) in omega (arith, h .1)) in
     rw (ne-eqb m 0 g) refl
 
-neg-fields : (x t : ℕ) → 0 < x + t → rootOf (ofFields binary64 true x t) ≡ nan
-unfolding ofFields rootOf
-neg-fields zero t h = neg-root (odd 53 true t 0 1074) (t * 2 ^ 0) (2 ^ 1074) (odd-sign 53 true t 0 1074) (omega arith)
-neg-fields (suc x) t h = go (eqb (suc x) 2047) (eqb t 0)
+neg-fields : (f : Format) (x t : ℕ) → 0 < x + t → rootIn f (ofFields f true x t) ≡ nan
+unfolding ofFields rootIn
+neg-fields f zero t h = neg-root f (odd (prec f) true t 0 (low f)) (t * 2 ^ 0) (2 ^ low f) (odd-sign (prec f) true t 0 (low f)) (omega arith)
+neg-fields f (suc x) t h = go (eqb (suc x) (ones f)) (eqb t 0)
   where
-    go : (b c : Bool) → rootOf (cond b (cond c (inf true) nan) (odd 53 true (2 ^ 52 + t) x 1074)) ≡ nan
+    go : (b c : Bool) → rootIn f (cond b (cond c (inf true) nan) (odd (prec f) true (hid f + t) x (low f))) ≡ nan
     go true true = refl
     go true false = refl
-    go false c = neg-root (odd 53 true (2 ^ 52 + t) x 1074) ((2 ^ 52 + t) * 2 ^ x) (2 ^ 1074) (odd-sign 53 true (2 ^ 52 + t) x 1074) (mul-pos (let w : 0 < 2 ^ 52 + t = omega arith in w) (pow-pos x))
+    go false c = neg-root f (odd (prec f) true (hid f + t) x (low f)) ((hid f + t) * 2 ^ x) (2 ^ low f) (odd-sign (prec f) true (hid f + t) x (low f)) (mul-pos (let w = hid-pos f in omega arith) (pow-pos x))
 
-pub negative : (b : ℕ) → (b % 2 ^ 63 ≡ 0 → ⊥) → 2 ^ 63 ≤ b → rootOf (ofBits binary64 b) ≡ nan
+-- the digits' field of a pattern is that of the pattern with no sign
+field : (f : Format) (b : ℕ) → b % top f % hid f ≡ b % hid f
+field f b = mod-mod-of-dvd (hid f) b (dvd-mul-right (hid f) (suc (ones f)))
+
+negative : (f : Format) (b : ℕ) → (b % top f ≡ 0 → ⊥) → top f ≤ b → rootIn f (ofBits f b) ≡ nan
 unfolding ofBits
-negative b h k = rw (le-leb (2 ^ 63) b k) (neg-fields (b % 2 ^ 63 / 2 ^ 52) (b % 2 ^ 52) (omega arith))
+negative f b h k =
+    let y = b % top f in
+    let some : 0 < y / hid f + b % hid f =
+    pos-of-ne-zero (λ z. h (sym (div-add-mod' y (hid f)) ∙ ap (λ (n : ℕ). n * hid f + y % hid f) (let g : y / hid f ≡ 0 = omega arith in g)
+    ∙ ap (λ (n : ℕ). n + y % hid f) (zero-mul (hid f)) ∙ (let g : 0 + y % hid f ≡ 0 = (let w = field f b in omega arith) in g))) in
+    rw (le-leb (top f) b k) (neg-fields f (y / hid f) (b % hid f) some)
 
-plus : rootOf (ofBits binary64 0) ≡ ofBits binary64 0
-unfolding rootOf rootUnits isqrt rounded units size ofBits
-plus = refl
+-- ---- zeros
 
-minus : rootOf (ofBits binary64 (2 ^ 63)) ≡ ofBits binary64 (2 ^ 63)
-unfolding rootOf ofBits
-minus = refl
+zero-whole : (n s : ℕ) → n ≡ 0 → Root n s → s ≡ 0
+zero-whole n zero z h = refl
+zero-whole n (suc s) z h = absurd (let w : 0 < suc s * suc s = mul-pos (zero-lt-suc s) (zero-lt-suc s) in omega (arith, h .low))
 
-pub zeros : (b : ℕ) → b % 2 ^ 63 ≡ 0 → b < 2 ^ 64 → rootOf (ofBits binary64 b) ≡ ofBits binary64 b
-zeros b h k =
-    dite (decLe 1 b) (λ g. let e : b ≡ 2 ^ 63 = omega arith in subst (λ (n : ℕ). rootOf (ofBits binary64 n) ≡ ofBits binary64 n) (sym e) minus)
-    (λ g. let e : b ≡ 0 = omega arith in subst (λ (n : ℕ). rootOf (ofBits binary64 n) ≡ ofBits binary64 n) (sym e) plus)
+zero-rounded : (f : Format) → rounded f (0 * 2 ^ low f) (0 / 2 ^ (size 0 - prec f)) (size 0 - prec f) ≡ fin false 0 (pos 0)
+unfolding rounded units odd size
+zero-rounded f =
+    let a : 0 - prec f ≡ 0 = omega arith in
+    let b : 0 * 2 ^ low f ≡ 0 = zero-mul (2 ^ low f) in
+    rw (a, b, lt-ltb 0 (2 ^ (low f + suc (emax f))) (pow-pos (low f + suc (emax f)))) refl
 
-pub infinite : (b : ℕ) → 0x7ff0_0000_0000_0000 ≤ b → b < 2 ^ 63 → rootOf (ofBits binary64 b) ≡ ofBits binary64 b
-unfolding ofBits ofFields rootOf
-infinite b h k =
-    let t : b % 2 ^ 63 ≡ b = omega arith in
-    let f : b / 2 ^ 52 ≡ 2047 = omega arith in
-    rw (lt-leb (2 ^ 63) b k, t, f) (go (eqb (b % 2 ^ 52) 0))
+pub zero-root : (f : Format) (s : Bool) → rootIn f (fin s 0 (pos 0)) ≡ fin s 0 (pos 0)
+unfolding rootIn rootUnits
+zero-root f true = refl
+zero-root f false =
+    let z : whole f 0 (pow-pos (low f + suc (emax f))) ≡ 0 = zero-whole (0 * 2 ^ low f) _ (zero-mul (2 ^ low f)) (is-root f 0 (pow-pos (low f + suc (emax f)))) in
+    ap (rootUnits f) (let n : 0 * 1 * 2 ^ low f / 1 ≡ 0 = omega arith in n)
+    ∙ ap (λ (s : ℕ). rounded f (0 * 2 ^ low f) (s / 2 ^ (size s - prec f)) (size s - prec f)) z
+    ∙ zero-rounded f
+
+zeros : (f : Format) (b : ℕ) → b % top f ≡ 0 → rootIn f (ofBits f b) ≡ ofBits f b
+unfolding ofBits ofFields odd
+zeros f b h =
+    let d : b % hid f ≡ 0 = sym (field f b) ∙ ap (λ (n : ℕ). n % hid f) h ∙ zero-mod (hid f) in
+    rw (h, d, zero-div (hid f)) (zero-root f (leb (top f) b))
+
+-- ---- infinities
+
+infinite : (f : Format) (b : ℕ) → ones f * hid f ≤ b → b < top f → rootIn f (ofBits f b) ≡ ofBits f b
+infinite f b h k =
+    let d : b / hid f ≡ ones f = div-eq-of-lt-le (hid f) h (lt-of-lt-of-le k (omega arith)) in
+    rw (plain f b k) (go (b / hid f) d)
   where
-    go : (c : Bool) → rootOf (cond c (inf false) nan) ≡ cond c (inf false) nan
-    go true = refl
-    go false = refl
+    go : (x : ℕ) → x ≡ ones f → rootIn f (ofFields f false x (b % hid f)) ≡ ofFields f false x (b % hid f)
+    go zero e = absurd (omega arith)
+    go (suc x) e = unfold ofFields in (rw (eq-eqb (suc x) (ones f) e) (at (eqb (b % hid f) 0)))
+      where
+        at : (c : Bool) → rootIn f (cond c (inf false) nan) ≡ cond c (inf false) nan
+        at true = unfold rootIn in refl
+        at false = unfold rootIn in refl
 
--- x is its pattern's value
-pub back : (x : Float) → T (fits binary64 x) → x ≡ ofBits binary64 (toBits binary64 x)
-back x f = sym (ofBits-toBits binary64 x f)
+-- ---- the same of a float, by its pattern
 
-pub zero-same : (x : Float) → T (fits binary64 x) → toBits binary64 x % 2 ^ 63 ≡ 0 → x ≡ rootOf x
-zero-same x f h = back x f ∙ sym (zeros (toBits binary64 x) h (toBits-lt binary64 x f)) ∙ ap rootOf (sym (back x f))
+back : (f : Format) (x : Float) → T (fits f x) → x ≡ ofBits f (toBits f x)
+back f x t = sym (ofBits-toBits f x t)
 
-pub below-nan : (x : Float) → T (fits binary64 x) → (toBits binary64 x % 2 ^ 63 ≡ 0 → ⊥) → 2 ^ 63 ≤ toBits binary64 x → nan ≡ rootOf x
-below-nan x f h k = sym (negative (toBits binary64 x) h k) ∙ ap rootOf (sym (back x f))
+pub zero-same : (f : Format) (x : Float) → T (fits f x) → toBits f x % top f ≡ 0 → x ≡ rootIn f x
+zero-same f x t h = back f x t ∙ sym (zeros f (toBits f x) h) ∙ ap (rootIn f) (sym (back f x t))
 
-pub inf-same : (x : Float) → T (fits binary64 x) → 0x7ff0_0000_0000_0000 ≤ toBits binary64 x → toBits binary64 x < 2 ^ 63 → x ≡ rootOf x
-inf-same x f h k = back x f ∙ sym (infinite (toBits binary64 x) h k) ∙ ap rootOf (sym (back x f))
+pub below-nan : (f : Format) (x : Float) → T (fits f x) → (toBits f x % top f ≡ 0 → ⊥) → top f ≤ toBits f x → nan ≡ rootIn f x
+below-nan f x t h k = sym (negative f (toBits f x) h k) ∙ ap (rootIn f) (sym (back f x t))
 
-pub of-units : (x : Float) → T (fits binary64 x) → toBits binary64 x < 0x7ff0_0000_0000_0000 → rootUnits (unitsOf (toBits binary64 x)) ≡ rootOf x
-of-units x f h = sym (root-of-value (ofBits binary64 (toBits binary64 x)) (unitsOf (toBits binary64 x)) (pattern-value (toBits binary64 x) h)) ∙ ap rootOf (sym (back x f))
+pub inf-same : (f : Format) (x : Float) → T (fits f x) → ones f * hid f ≤ toBits f x → toBits f x < top f → x ≡ rootIn f x
+inf-same f x t h k = back f x t ∙ sym (infinite f (toBits f x) h k) ∙ ap (rootIn f) (sym (back f x t))
 
-pub nan-same : (x : Float) → x ≡ nan → x ≡ rootOf x
-unfolding rootOf
-nan-same x e = rw e refl
+pub nan-same : (f : Format) (x : Float) → x ≡ nan → x ≡ rootIn f x
+unfolding rootIn
+nan-same f x e = rw e refl
+
+-- the root of a pattern's value is the root of the float
+pub of-pattern : (f : Format) (x : Float) → T (fits f x) → rootIn f (ofBits f (toBits f x)) ≡ rootIn f x
+of-pattern f x t = ap (rootIn f) (sym (back f x t))

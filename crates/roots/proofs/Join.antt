@@ -1,80 +1,86 @@
--- From the digits of the code to the definition. Assumes nothing.
-use mathlib.Core.Path.{_≡_, refl, sym, ap, _∙_, subst}
+-- The definition of the root meets whole numbers: of w * 4^j units it is the whole number nearest to the root of w, times 2^j. Assumes nothing.
+use mathlib.Core.Path.{_≡_, sym, ap, _∙_, subst}
 use mathlib.Core.Logic.{dite}
-use mathlib.Core.Bool.{Bool, true, false, cond}
-use Prim.Native.Nat.{ℕ, zero, suc, _+_, _*_, _-_, _/_, _%_, _^_, _≤_, _<_, zero-le}
-use native.Mathlib.Nat.{pow-succ', pow-suc, mul-le-mul, mul-le-mul-right, mul-lt-mul-of-pos-right, le-trans, le-of-eq, lt-of-lt-of-le, mul-pos, div-div-eq-div-mul, mul-assoc, mul-comm, mul-left-comm, mul-le-mul-left, lt-of-le-of-lt, zero-add}
+use mathlib.Core.Bool.{true, false, true≢false}
+use Prim.Native.Nat.{ℕ, suc, _+_, _*_, _-_, _/_, _%_, _^_, _≤_, _<_, zero-le}
+use native.Mathlib.Nat.{mul-le-mul, mul-le-mul-left, mul-lt-mul-of-pos-right, le-trans, le-of-eq, lt-of-lt-of-le, lt-of-le-of-lt, mul-assoc, mul-right-comm, zero-add, eq-of-mul-eq-mul-right}
 use native.Mathlib.Decide.{decLe}
 use native.Mathlib.Omega.{arith}
-use lib.Dec.{ltb, lit≤}
+use lib.Dec.{T}
 use lib.Pow.{pow-pos, pow-add, pow-mono}
-use lib.Ieee.{Float, binary64, units, size, ofBits}
-use Rattle.roots.specs.Root.{isqrt, rounded, rootUnits}
-use Rattle.roots.proofs.Whole.{Root, isqrt-is, unique, four-pow, cut, places, round-up, sq-lt}
-use Rattle.roots.proofs.Glue.{units-bits}
+use lib.Ieee.{Float, nan, inf, fin, Format, binary64, prec, emax, low, hid, up, down, nearest, units, size, ofBits, fits}
+use lib.Ieee.Fits.{down-pos}
+use lib.Ieee.Exact.{HasValue}
+use Rattle.roots.specs.Root.{isqrt, rounded, rootUnits, rootIn, rootOf}
+use Rattle.roots.specs.Nearest.{NearestWhole}
+use Rattle.roots.proofs.Whole.{Root, isqrt-is, four-pow, cut, places, sq-lt, near-unique, near-low, near-high, rounds}
+use Rattle.roots.proofs.Held.{held, unitsOf}
+use Rattle.roots.proofs.Patterns.{prec-is, units-bits}
 
--- n units, scaled: the code's number and a power of four
+module _ (f : Format) (n : ℕ) (small : n < 2 ^ (low f + suc (emax f))) where
+  -- the whole root
+  abbrev pub whole : ℕ
+  whole = isqrt (low f + suc (emax f)) (n * 2 ^ low f) 0
+
+  pub is-root : Root (n * 2 ^ low f) whole
+  is-root =
+      let w = low f + suc (emax f) in
+      let a : n * 2 ^ low f < 2 ^ w * 2 ^ w = lt-of-lt-of-le (mul-lt-mul-of-pos-right small (pow-pos (low f))) (mul-le-mul-left (2 ^ w) (pow-mono (let g : low f ≤ low f + suc (emax f) = omega arith in g))) in
+      isqrt-is w (n * 2 ^ low f) 0 zero-le (lt-of-lt-of-le a (le-of-eq (ap (λ (k : ℕ). k * k) (sym (zero-add (2 ^ w))))))
+
+  module _ (w j r : ℕ) (is : n * 2 ^ low f ≡ w * 4 ^ j) (least : hid f * hid f ≤ w) (most : w < 2 ^ prec f * 2 ^ prec f) (near : NearestWhole w r) where
+    cut-root : Root w (whole / 2 ^ j)
+    cut-root = cut w j whole (subst (λ (k : ℕ). Root k whole) is is-root)
+
+    cut-low : hid f ≤ whole / 2 ^ j
+    cut-low = dite (decLe (hid f) (whole / 2 ^ j)) (λ k. k) (λ k. let g : whole / 2 ^ j + 1 ≤ hid f = omega arith in let w = mul-le-mul g g in absurd (omega (arith, cut-root .high)))
+
+    cut-high : whole / 2 ^ j < 2 ^ suc (prec f - 1)
+    cut-high = subst (λ (p : ℕ). whole / 2 ^ j < 2 ^ p) (prec-is f) (sq-lt (whole / 2 ^ j) (2 ^ prec f) (lt-of-le-of-lt (cut-root .low) most))
+
+    dropped : size whole - prec f ≡ j
+    dropped = let z = places (prec f - 1) j whole cut-low cut-high in let e = prec-is f in omega arith
+
+    pub root-is : rootUnits f n ≡ units f false r j
+    unfolding rootUnits rounded
+    root-is =
+        ap (λ (k : ℕ). rounded f (n * 2 ^ low f) (whole / 2 ^ k) k) dropped
+        ∙ ap (λ (m : ℕ). rounded f m (whole / 2 ^ j) j) is
+        ∙ ap (λ (q : ℕ). units f false q j) (near-unique (rounds w j (whole / 2 ^ j) cut-root (lt-of-lt-of-le (pow-pos (prec f - 1)) cut-low)) near)
+
+-- ---- a double of m * 2^up units of 2^-1126: the code's numbers
+
 reorder : (m e h a b : ℕ) → m * (e * (h * h)) * (a * b) ≡ m * e * a * (h * h * b)
 reorder m e h a b = omega arith
 
-scaled : (n m up : ℕ) → n * 2 ^ 52 ≡ m * 2 ^ up → n * 2 ^ 1074 ≡ m * 2 ^ (up % 2) * 2 ^ 54 * 4 ^ (up / 2 + 484)
+scaled : (n m up : ℕ) → n * 2 ^ 52 ≡ m * 2 ^ up → n * 2 ^ 1074 ≡ m * 2 ^ (up % 2) * 2 ^ 52 * 4 ^ (up / 2 + 485)
 scaled n m up e =
     let u : up ≡ up % 2 + (up / 2 + up / 2) = omega arith in
     let p : 2 ^ up ≡ 2 ^ (up % 2) * (2 ^ (up / 2) * 2 ^ (up / 2)) = ap (λ (k : ℕ). 2 ^ k) u ∙ pow-add 2 (up % 2) (up / 2 + up / 2) ∙ ap (λ (k : ℕ). 2 ^ (up % 2) * k) (pow-add 2 (up / 2) (up / 2)) in
-    let q : 4 ^ (up / 2 + 484) ≡ 2 ^ (up / 2) * 2 ^ (up / 2) * 2 ^ 968 = pow-add 4 (up / 2) 484 ∙ ap (λ (k : ℕ). k * 2 ^ 968) (four-pow (up / 2)) in
+    let q : 4 ^ (up / 2 + 485) ≡ 2 ^ (up / 2) * 2 ^ (up / 2) * 2 ^ 970 = pow-add 4 (up / 2) 485 ∙ ap (λ (k : ℕ). k * 2 ^ 970) (four-pow (up / 2)) in
     sym (mul-assoc n (2 ^ 52) (2 ^ 1022)) ∙ ap (λ (k : ℕ). k * 2 ^ 1022) (e ∙ ap (λ (k : ℕ). m * k) p)
-    ∙ reorder m (2 ^ (up % 2)) (2 ^ (up / 2)) (2 ^ 54) (2 ^ 968) ∙ ap (λ (k : ℕ). m * 2 ^ (up % 2) * 2 ^ 54 * k) (sym q)
+    ∙ reorder m (2 ^ (up % 2)) (2 ^ (up / 2)) (2 ^ 52) (2 ^ 970) ∙ ap (λ (k : ℕ). m * 2 ^ (up % 2) * 2 ^ 52 * k) (sym q)
 
-module _ (n m up r rem : ℕ) (e : n * 2 ^ 52 ≡ m * 2 ^ up) (few : up ≤ 2097) (low : 2 ^ 52 ≤ m * 2 ^ (up % 2)) (high : m * 2 ^ (up % 2) < 2 ^ 54)
-    (is : r * r + rem ≡ m * 2 ^ (up % 2) * 2 ^ 54) (small : rem ≤ 2 * r) where
-  abbrev whole : ℕ
-  whole = m * 2 ^ (up % 2) * 2 ^ 54
+same-units : (a d n v x y : ℕ) → 0 < d → a * x ≡ n * d → a * (x * y) ≡ v * d → n * y ≡ v
+same-units a d n v x y p h k = eq-of-mul-eq-mul-right d p (n * y) v (mul-right-comm n y d ∙ ap (λ (z : ℕ). z * y) (sym h) ∙ mul-assoc a x y ∙ k)
 
-  the-root : Root whole r
-  the-root = record { low = omega arith; high = omega arith }
+pub range : (v r : ℕ) → 2 ^ 52 ≤ v → v < 2 ^ 54 → NearestWhole (v * 2 ^ 52) r → (2 ^ 52 ≤ r) × (r ≤ 2 ^ 53)
+range v r l h near = (near-low (2 ^ 52) (omega arith) near, near-high (2 ^ 53) (omega arith) near)
 
-  r-low : 2 ^ 53 ≤ r
-  r-low = dite (decLe (2 ^ 53) r) (λ k. k) (λ k. let g : r + 1 ≤ 2 ^ 53 = omega arith in let w = mul-le-mul g g in absurd (omega (arith, the-root .high)))
-
-  r-high : r < 2 ^ 54
-  r-high = sq-lt r (2 ^ 54) (omega (arith, the-root .low))
-
-  abbrev s : ℕ
-  s = isqrt 1600 (n * 2 ^ 1074) 0
-
-  abbrev j : ℕ
-  j = up / 2 + 484
-
-  n-high : n * 2 ^ 1074 < 2 ^ 1600 * 2 ^ 1600
-  n-high =
-      let k : 2 ^ j ≤ 2 ^ 1532 = pow-mono (let w : j ≤ 1532 = omega arith in w) in
-      let a : 4 ^ j ≤ 2 ^ 1532 * 2 ^ 1532 = le-trans (le-of-eq (four-pow j)) (mul-le-mul k k) in
-      let p : 0 < 4 ^ j = lt-of-lt-of-le (mul-pos (pow-pos j) (pow-pos j)) (le-of-eq (sym (four-pow j))) in
-      lt-of-le-of-lt (le-of-eq (scaled n m up e))
-      (lt-of-lt-of-le (mul-lt-mul-of-pos-right (let w : whole < 2 ^ 108 = omega arith in w) p) (le-trans (mul-le-mul-left (2 ^ 108) a) (lit≤ tt)))
-
-  s-root : Root (n * 2 ^ 1074) s
-  s-root = isqrt-is 1600 (n * 2 ^ 1074) 0 zero-le (lt-of-lt-of-le n-high (le-of-eq (ap (λ (k : ℕ). k * k) (sym (zero-add (2 ^ 1600))))))
-
-  s-cut : s / 2 ^ j ≡ r
-  s-cut = unique (cut whole j s (subst (λ (k : ℕ). Root k s) (scaled n m up e) s-root)) the-root
-
-  s-size : size s - 53 ≡ suc j
-  s-size = let w = places j s (subst (λ (k : ℕ). 2 ^ 53 ≤ k) (sym s-cut) r-low) (subst (λ (k : ℕ). k < 2 ^ 54) (sym s-cut) r-high) in omega arith
-
-  s-half : s / 2 ^ suc j ≡ r / 2
-  s-half = ap (λ (k : ℕ). s / k) (pow-suc 2 j) ∙ sym (div-div-eq-div-mul s (2 ^ j) 2) ∙ ap (λ (k : ℕ). k / 2) s-cut
-
-  rounded-is : rounded (n * 2 ^ 1074) s (suc j) ≡ units binary64 false (r / 2 + r % 2) (suc j)
-  unfolding rounded
-  rounded-is =
-      rw (s-half, scaled n m up e)
-      (ap (λ (q : ℕ). units binary64 false q (suc j)) (round-up whole j r the-root (let w : whole % 4 ≡ 0 = omega arith in w)))
-
-  pub joined : ofBits binary64 ((up / 2 + 485) * 2 ^ 52 + (r / 2 + r % 2)) ≡ rootUnits n
-  unfolding rootUnits
-  joined =
-      let k : suc j ≡ up / 2 + 485 = omega arith in
-      ap (λ (x : ℕ). ofBits binary64 (x * 2 ^ 52 + (r / 2 + r % 2))) (sym k)
-      ∙ units-bits (r / 2 + r % 2) (suc j) (omega (arith, r-low)) (omega (arith, r-high)) (omega arith)
-      ∙ sym rounded-is ∙ ap (λ (x : ℕ). rounded (n * 2 ^ 1074) s x) (sym s-size)
+pub joined : (x : Float) → T (fits binary64 x) → (m up r : ℕ) → HasValue x false (m * 2 ^ up) (2 ^ 1126) → up ≤ 2097
+    → 2 ^ 52 ≤ m * 2 ^ (up % 2) → m * 2 ^ (up % 2) < 2 ^ 54 → NearestWhole (m * 2 ^ (up % 2) * 2 ^ 52) r → ofBits binary64 ((up / 2 + 485) * 2 ^ 52 + r) ≡ rootOf x
+unfolding rootIn
+joined nan t m up r v k l h near = absurd v
+joined (inf s) t m up r v k l h near = absurd v
+joined (fin true n e) t m up r v k l h near = absurd (true≢false (v .0))
+joined (fin false n e) t m up r v k l h near =
+    let a = held binary64 false n e t in
+    let j = up / 2 + 485 in
+    let c = range (m * 2 ^ (up % 2)) r l h near in
+    let is : unitsOf binary64 n e * 2 ^ 52 ≡ m * 2 ^ up =
+    same-units (n * lib.Ieee.up e) (down e) (unitsOf binary64 n e) (m * 2 ^ up) (2 ^ 1074) (2 ^ 52) (down-pos e) (a .value) (subst (λ (z : ℕ). n * lib.Ieee.up e * z ≡ m * 2 ^ up * down e) (pow-add 2 1074 52) (v .1)) in
+    let fine : r * 2 ^ j < 2 ^ 2098 =
+    lt-of-lt-of-le (mul-lt-mul-of-pos-right (let w : r < 2 ^ 54 = omega (arith, c .1) in w) (pow-pos j))
+    (le-trans (le-of-eq (sym (pow-add 2 54 j))) (pow-mono (let w : 54 + j ≤ 2098 = omega arith in w))) in
+    units-bits binary64 r j (c .0) (c .1) fine
+    ∙ sym (root-is binary64 (unitsOf binary64 n e) (a .small) (m * 2 ^ (up % 2) * 2 ^ 52) j r (scaled (unitsOf binary64 n e) m up is) (omega arith) (omega arith) near)

@@ -1,20 +1,16 @@
+-- `evened`: m times 2 to the parity of the exponent. Assumes nothing.
 use native.Mathlib.Omega.{arith}
 use Rattle.roots.proofs.Laws.{evened-no, evened-yes}
 use borrow.Author.Needs.{needs}
 use Rattle.roots.proofs.evened.Statement.{statement}
 use Rattle.roots.proofs.evened.Tie as tie
-use Rattle.roots.proofs.evened.Reads as reads
-use Rattle.roots.proofs.evened.Lts as lts
 
--- src/lib.rt:95:33
 mul-result : tie.Need-mul-result
 mul-result c = search needs
 
--- src/lib.rt:91:1
 returns : tie.Need-returns
 returns c = (search needs, search needs, evened-no (c .before .args .m) (c .before .args .up) (c .if1 .taken))
 
--- src/lib.rt:91:1
 returns-2 : tie.Need-returns-2
 returns-2 c = (search needs, search needs, evened-yes (c .before .args .m) (c .before .args .up) (omega arith))
 
