@@ -4,8 +4,8 @@ use mathlib.Core.List.{List, [], _∷_, _++_, append-assoc}
 use Prim.Native.Nat.{ℕ, zero, suc, _+_, _-_, _*_, _≤_, _<_}
 use native.Mathlib.Nat.{le-trans, le-of-eq, suc-mul, zero-add, suc-add}
 use native.Mathlib.Omega.{arith}
-use lib.ListN.{length, take, drop, length-append, length-take, length-drop}
-use lib.Seq.{take-nil, length-take-le, take-append-le, drop-append-le, take-take, take-at, drop-at, drop-drop}
+use lib.ListN.{length, take, drop, getD, set, length-append, length-take, length-drop}
+use lib.Seq.{take-nil, length-take-le, take-append-le, drop-append-le, take-take, take-at, drop-at, drop-drop, getD-take, getD-drop, sets-eq}
 use Rattle.lists.specs.Parts.{part, block, patch}
 
 -- ---- a part lent as `&s[a..a + n]`: the logic writes its length as a + n - a
@@ -66,3 +66,26 @@ module _ {A : Type 0} where
       let d : drop (suc k * n) z ≡ ws ++ rest =
           ap (λ (j : ℕ). drop j z) (suc-mul k n) ∙ sym (drop-drop n (k * n) z) ∙ ap (drop n) (written (k * n) l vs ws h) ∙ drop-at vs (ws ++ rest) n e in
       ap (take n) d ∙ take-at ws rest n g
+
+  -- ---- an element of a slot
+  pub block-get : (n k i : ℕ) (l : List A) (d : A) → i < n → getD (block n k l) i d ≡ getD l (k * n + i) d
+  block-get n k i l d h = getD-take n (drop (k * n) l) i d h ∙ getD-drop (k * n) l i d
+
+  -- ---- a write behind a write is one write
+  pub patch-twice : (l : List A) (i j : ℕ) (a b : List A) → j ≡ i + length a → j + length b ≤ length l → patch (patch l i a) j b ≡ patch l i (a ++ b)
+  patch-twice l i j a b e h =
+      let s : length (take i l) ≡ i = length-take-le i l (omega arith) in
+      let f : length (take i l ++ a) ≡ j = simp length-append (omega arith) in
+      let w : take i l ++ (a ++ drop (i + length a) l) ≡ (take i l ++ a) ++ drop j l = sym (append-assoc (take i l) a (drop (i + length a) l)) ∙ ap (λ (k : ℕ). (take i l ++ a) ++ drop k l) (sym e) in
+      let t : take j (patch l i a) ≡ take i l ++ a = ap (take j) w ∙ take-at (take i l ++ a) (drop j l) j f in
+      let d : drop (j + length b) (patch l i a) ≡ drop (j + length b) l =
+            ap (drop (j + length b)) w ∙ sym (drop-drop (length b) j ((take i l ++ a) ++ drop j l))
+            ∙ ap (drop (length b)) (drop-at (take i l ++ a) (drop j l) j f) ∙ drop-drop (length b) j l in
+      let c : i + length (a ++ b) ≡ j + length b = simp length-append (omega arith) in
+      rw (t, d, c) (append-assoc (take i l) a (b ++ drop (j + length b) l) ∙ ap (λ (z : List A). take i l ++ z) (sym (append-assoc a b (drop (j + length b) l))))
+
+  -- ---- two stores in a row
+  pub two-stores : (l : List A) (i : ℕ) (a b : A) → i + 2 ≤ length l → set (set l i a) (i + 1) b ≡ patch l i (a ∷ b ∷ [])
+  two-stores l i a b h =
+      let e : i + 1 ≡ suc i = omega arith in
+      rw e (sets-eq (a ∷ b ∷ []) l i h ∙ append-assoc (take i l) (a ∷ b ∷ []) (drop (i + 2) l))

@@ -1,0 +1,4 @@
+pub mod Refine
+pub mod Chain
+pub mod Opening
+pub mod Final

@@ -1,0 +1,104 @@
+-- What was asked, and the search that it starts: the pieces of both lines, the pushed pairs, and where the memory keeps each node. Definitions only.
+use mathlib.Core.List.{List, [], _∷_, _++_, map, reverse}
+use mathlib.Core.Bool.{cond}
+use Prim.Native.Nat.{ℕ, _*_}
+use lib.ListN.{length}
+use lib.Ieee.{Float}
+use Rattle.lists.specs.Parts.{patch}
+use Rattle.machine.specs.Machine.{Shape, Node, Search, partOf, depth, pushed, fresh, ended}
+use Rattle.regions.specs.declared.Region.{Region}
+use Rattle.states.specs.declared.State.{State}
+use Rattle.states.specs.declared.Counts.{Counts}
+use Rattle.search.specs.Geometry.{Geometry, Piece, InRange, floats, regionOf}
+use Rattle.states.specs.States.{Memory}
+
+-- a piece's end and net; it starts where the one before ends
+pub record Cut : Type 0 where
+  pub to : Float
+  pub net : List Float
+
+abbrev pub piecesFrom : Float → List Cut → List Piece
+piecesFrom from [] = []
+piecesFrom from (c ∷ cs) = record { lo = from; hi = c .to; net = c .net } ∷ piecesFrom (c .to) cs
+
+abbrev pub endFrom : Float → List Cut → Float
+endFrom from [] = from
+endFrom from (c ∷ cs) = endFrom (c .to) cs
+
+-- for each line the start of its range, and its pieces, one at least
+pub record Asked : Type 0 where
+  pub geometry : Geometry
+  pub from1 : Float
+  pub first1 : Cut
+  pub rest1 : List Cut
+  pub from2 : Float
+  pub first2 : Cut
+  pub rest2 : List Cut
+  pub gap : Float
+  pub quota : ℕ
+  pub width1 : ℕ
+  pub width2 : ℕ
+
+abbrev pub shape : Asked → Shape
+shape q = floats (q .geometry) (q .gap)
+
+abbrev pub pieces1 : Asked → List Piece
+pieces1 q = piecesFrom (q .from1) (q .first1 ∷ q .rest1)
+
+abbrev pub pieces2 : Asked → List Piece
+pieces2 q = piecesFrom (q .from2) (q .first2 ∷ q .rest2)
+
+-- a station in the asked range of a line
+abbrev pub In1 : Asked → Float → Type 0
+In1 q s = InRange (q .from1) (endFrom (q .from1) (q .first1 ∷ q .rest1)) s
+
+abbrev pub In2 : Asked → Float → Type 0
+In2 q t = InRange (q .from2) (endFrom (q .from2) (q .first2 ∷ q .rest2)) t
+
+abbrev pub pushedPairs : (q : Asked) → List (Node (shape q))
+pushedPairs q = pushed (shape q) (pieces1 q) (pieces2 q)
+
+abbrev pub pairsOf : Asked → ℕ
+pairsOf q = length (pushedPairs q)
+
+-- the fresh search, with an allowance of S × P
+abbrev pub start : (q : Asked) → Search (shape q)
+start q = fresh (shape q) (pieces1 q) (pieces2 q) (q .quota * pairsOf q)
+
+-- ---- the numbers of a search, as a state and as counts
+abbrev pub stateOf : (q : Asked) → Search (shape q) → State
+stateOf q m = record { pairs = pairsOf q; quota = q .quota; waiting = length (m .stack); visits = m .visits; splits = m .splits; unspent = m .unspent; settled = length (m .settled); given = length (m .given);
+    width1 = q .width1; width2 = q .width2; gap = q .gap; stopped = m .stopped }
+
+-- left: the nodes waiting at the end
+abbrev pub tally : (q : Asked) → Search (shape q) → Counts
+tally q m = record { pairs = pairsOf q; visits = m .visits; splits = m .splits; settled = length (m .settled); given = length (m .given); left = cond (ended (shape q) m) (length (m .stack)) 0; unspent = m .unspent }
+
+-- the raw list: given-up regions in order, then the waiting nodes from the bottom
+abbrev pub rawList : (q : Asked) → Search (shape q) → List Region
+rawList q m = map (regionOf (q .geometry) (q .gap)) (m .given ++ reverse (m .stack))
+
+-- ---- the memory after the opening: node k of the pushed list owns slot k
+abbrev pub concat : {A : Type 0} → List (List A) → List A
+concat [] = []
+concat (l ∷ ls) = l ++ concat ls
+
+abbrev pub netOf1 : (q : Asked) → Node (shape q) → List Float
+netOf1 q n = partOf (shape q) (n .a) .net
+
+abbrev pub netOf2 : (q : Asked) → Node (shape q) → List Float
+netOf2 q n = partOf (shape q) (n .b) .net
+
+abbrev pub rangesOf : (q : Asked) → Node (shape q) → List Float
+rangesOf q n = let p = partOf (shape q) (n .a) in let r = partOf (shape q) (n .b) in p .lo ∷ p .hi ∷ r .lo ∷ r .hi ∷ []
+
+abbrev pub depthOf : (q : Asked) → Node (shape q) → List ℕ
+depthOf q n = depth (shape q) n ∷ []
+
+abbrev pub openMemory : Asked → Memory → Memory
+openMemory q u = record {
+    nets1 = patch (u .nets1) 0 (concat (map (netOf1 q) (pushedPairs q)));
+    nets2 = patch (u .nets2) 0 (concat (map (netOf2 q) (pushedPairs q)));
+    ranges = patch (u .ranges) 0 (concat (map (rangesOf q) (pushedPairs q)));
+    depths = patch (u .depths) 0 (concat (map (depthOf q) (pushedPairs q)));
+    raw = u .raw }

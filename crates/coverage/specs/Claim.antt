@@ -1,0 +1,98 @@
+-- What is claimed of every list of calls. Definitions only.
+use mathlib.Core.Path.{_≡_}
+use mathlib.Core.Logic.{_⊎_, _↔_}
+use mathlib.Core.List.{List, [], _∷_, map}
+use Prim.Native.Nat.{ℕ, _+_, _*_, _^_, _≤_}
+use lib.Dec.{T}
+use lib.ListN.{length, take}
+use lib.Ieee.{Float}
+use Rattle.lists.specs.Members.{Any, All, Pairwise}
+use Rattle.lists.specs.Parts.{block}
+use Rattle.verdicts.specs.declared.Verdict.the-variants.{Settled}
+use Rattle.floats.specs.Sizes.{Within}
+use Rattle.machine.specs.Machine.{Node, Settling, Search, InNode, ended}
+use Rattle.machine.specs.Covered.{SetApart, Covered, Off}
+use Rattle.regions.specs.declared.Region.{Region}
+use Rattle.regions.specs.declared.Word.{Word}
+use Rattle.regions.specs.declared.Word.the-variants.{Complete}
+use Rattle.regions.specs.Regions.{merging, flats}
+use Rattle.states.specs.declared.Counts.{Counts}
+use Rattle.search.specs.Geometry.{InRange, regionOf}
+use Rattle.states.specs.States.{Memory}
+use Rattle.report.specs.declared.Reported.{Reported}
+use Rattle.report.specs.declared.Reported.the-variants.{Told, Running, NoRoom}
+use Rattle.coverage.specs.Calls.{Answer, stepped, judged, reported, Ran}
+use Rattle.coverage.specs.Asked.{Cut, Asked, shape, pieces1, pieces2, In1, In2, stateOf, tally, netOf1, netOf2, rangesOf, depthOf}
+
+-- ---- what admission and an unrefused opening give
+-- ends of pieces are finite and at most 2 ^ bound in size; nets have the line's width
+abbrev pub bound : ℕ
+bound = 22
+
+abbrev pub FineLine : ℕ → Float → List Cut → Type 0
+FineLine w from cs = Within (2 ^ bound) from × All (λ (c : Cut). Within (2 ^ bound) (c .to) × (length (c .net) ≡ 4 * w)) cs
+
+pub record Fine (q : Asked) : Type 0 where
+  pub fine1 : FineLine (q .width1) (q .from1) (q .first1 ∷ q .rest1)
+  pub fine2 : FineLine (q .width2) (q .from2) (q .first2 ∷ q .rest2)
+  pub lower-length : (w : ℕ) (l : List Float) → length l ≡ 4 * w → length (q .geometry .lowerNet l) ≡ 4 * w
+  pub upper-length : (w : ℕ) (l : List Float) → length l ≡ 4 * w → length (q .geometry .upperNet l) ≡ 4 * w
+
+-- ---- the nodes that the memory holds: slot k has node k's nets, ranges and depth
+pub record Stored (q : Asked) (u : Memory) (k : ℕ) (n : Node (shape q)) : Type 0 where
+  pub net1 : block (4 * q .width1) k (u .nets1) ≡ netOf1 q n
+  pub net2 : block (4 * q .width2) k (u .nets2) ≡ netOf2 q n
+  pub ranges : block 4 k (u .ranges) ≡ rangesOf q n
+  pub depth : block 1 k (u .depths) ≡ depthOf q n
+
+-- the top of n ∷ r is node number length r, from the bottom
+abbrev pub AllStored : (q : Asked) → Memory → List (Node (shape q)) → Type 0
+AllStored q u [] = Unit {0}
+AllStored q u (n ∷ r) = Stored q u (length r) n × AllStored q u r
+
+-- ---- a report that is not refused
+abbrev pub InRegion : Float → Float → Region → Type 0
+InRegion s t r = InRange (r .a0) (r .a1) s × InRange (r .b0) (r .b1) t
+
+-- the pair of stations lies in a piece pair set apart by its boxes, a settled node or a reported region
+abbrev pub Accounted : (q : Asked) → Search (shape q) → List Region → Float → Float → Type 0
+Accounted q m out s t = SetApart (shape q) (pieces1 q) (pieces2 q) s t ⊎ (Any (λ (e : Settling (shape q)). InNode (shape q) s t (e .node)) (m .settled) ⊎ Any (InRegion s t) out)
+
+-- the word w, the counts c, k regions, and the report slice afterwards
+pub record GoodReport (q : Asked) (m : Search (shape q)) (w : Word) (c : Counts) (k : ℕ) (slice : List Float) : Type 0 where
+  -- the regions, as they stand in the slice
+  pub out : List Region
+  pub read : take (k * 10) slice ≡ flats out
+  pub number : k ≡ length out
+  -- the search has ended, and the counts are its
+  pub finished : T (ended (shape q) m)
+  pub tallied : c ≡ tally q m
+  -- nothing is lost, no two regions touch, and "complete" comes exactly when given up and left are 0
+  pub accounted : (s t : Float) → In1 q s → In2 q t → Accounted q m out s t
+  pub disjoint : Pairwise (Off merging) out
+  pub exact : (w ≡ Complete) ↔ ((c .given ≡ 0) × (c .left ≡ 0))
+
+abbrev pub GoodReported : (q : Asked) → Search (shape q) → Reported → List Float → Type 0
+GoodReported q m (Told w c k) slice = GoodReport q m w c k slice
+GoodReported q m Running slice = Unit {0}
+GoodReported q m NoRoom slice = Unit {0}
+
+abbrev pub GoodAnswer : (q : Asked) → Search (shape q) → Answer → Type 0
+GoodAnswer q m (stepped a) = Unit {0}
+GoodAnswer q m (judged a) = Unit {0}
+GoodAnswer q m (reported a slice) = GoodReported q m a slice
+
+-- ---- after the list: m is the search that the rules make, r what the calls left
+pub record After (q : Asked) (m : Search (shape q)) (r : Ran) : Type 0 where
+  -- each pair of stations lies in a piece pair set apart by its boxes, a settled node, a region given up or a waiting node
+  pub covered : (s t : Float) → In1 q s → In2 q t → Covered (shape q) (pieces1 q) (pieces2 q) m s t
+  -- pairs + splits = settled + given up + waiting; at most pairs + 64 nodes wait
+  pub balance : r .state .pairs + r .state .splits ≡ r .state .settled + r .state .given + r .state .waiting
+  pub atMost : r .state .waiting ≤ r .state .pairs + 64
+  -- the state's counts are the search's, the memory holds its nodes, the raw slice its given-up regions
+  pub state : r .state ≡ stateOf q m
+  pub nodes : AllStored q (r .memory) (m .stack)
+  pub givenUp : take (length (m .given) * 10) (r .memory .raw) ≡ flats (map (regionOf (q .geometry) (q .gap)) (m .given))
+  pub reports : All (GoodAnswer q m) (r .answers)
+  -- a node settled on the search's own verdict has nets that pass the clearing tests: its pieces' nets, halved as its splits went
+  pub cleared : All (λ (e : Settling (shape q)). T (e .own) → q .geometry .clearing (q .gap) (netOf1 q (e .node)) (netOf2 q (e .node)) ≡ Settled) (m .settled)

@@ -1,0 +1,134 @@
+-- The search as a machine over parts of two lines. A part is one line's range and net; what a range, a net and a station are is left open,
+-- so that the float search and a whole-number search are two shapes of one machine. Definitions only.
+use mathlib.Core.List.{List, [], _∷_, _++_, reverse}
+use mathlib.Core.Bool.{Bool, true, false, not, _&&_, _||_, cond}
+use Prim.Native.Nat.{ℕ, zero, suc, _+_, _*_, _≤_, _<_}
+use lib.Dec.{T, leb, eqb}
+use lib.ListN.{length}
+use Rattle.verdicts.specs.declared.Verdict.{Verdict}
+use Rattle.verdicts.specs.declared.Verdict.the-variants.{Settled, Split, Unseparated}
+
+pub record Shape : Type 1 where
+  pub Part : Type 0
+  pub Station : Type 0
+  pub Holds : Part → Station → Type 0
+  pub lower : Part → Part
+  pub upper : Part → Part
+  -- the boxes are apart by the gap; the second line is the one to halve
+  pub apart : Part → Part → Bool
+  pub second : Part → Part → Bool
+
+-- the most halvings between a pair of pieces and a node
+abbrev pub limit : ℕ
+limit = 64
+
+-- A place on one line: one of its pieces, and the halves taken of it, the last first (true: the upper half).
+pub record Spot (S : Shape) : Type 0 where
+  pub piece : S .Part
+  pub halves : List Bool
+
+pub record Node (S : Shape) : Type 0 where
+  pub a : Spot S
+  pub b : Spot S
+
+-- a settled node, and whether the search's own verdict on it had been asked and was Settled
+pub record Settling (S : Shape) : Type 0 where
+  pub node : Node S
+  pub own : Bool
+
+-- `stack` has the top node first; `settled` the last first; `given` the first first.
+pub record Search (S : Shape) : Type 0 where
+  pub stack : List (Node S)
+  pub settled : List (Settling S)
+  pub given : List (Node S)
+  pub visits : ℕ
+  pub splits : ℕ
+  pub unspent : ℕ
+  pub stopped : Bool
+  -- the own verdict has been asked since the last step that was not refused, and was Settled
+  pub told : Bool
+
+module _ (S : Shape) where
+  abbrev pub half : Bool → S .Part → S .Part
+  half true p = S .upper p
+  half false p = S .lower p
+
+  -- the part at the end of the halvings: "its pieces' nets, halved as its splits went"
+  abbrev pub descend : S .Part → List Bool → S .Part
+  descend p [] = p
+  descend p (u ∷ us) = half u (descend p us)
+
+  abbrev pub partOf : Spot S → S .Part
+  partOf x = descend (x .piece) (x .halves)
+
+  abbrev pub depth : Node S → ℕ
+  depth n = length (n .a .halves) + length (n .b .halves)
+
+  abbrev pub InNode : S .Station → S .Station → Node S → Type 0
+  InNode s t n = S .Holds (partOf (n .a)) s × S .Holds (partOf (n .b)) t
+
+  -- ---- opening: the pairs of pieces whose boxes are not apart, in order
+  abbrev pub atPieces : S .Part → S .Part → Node S
+  atPieces p q = record { a = record { piece = p; halves = [] }; b = record { piece = q; halves = [] } }
+
+  abbrev pub row : S .Part → List (S .Part) → List (Node S)
+  row p [] = []
+  row p (q ∷ qs) = cond (S .apart p q) (row p qs) (atPieces p q ∷ row p qs)
+
+  abbrev pub pushed : List (S .Part) → List (S .Part) → List (Node S)
+  pushed [] qs = []
+  pushed (p ∷ ps) qs = row p qs ++ pushed ps qs
+
+  abbrev pub fresh : List (S .Part) → List (S .Part) → ℕ → Search S
+  fresh ps qs allowance = record { stack = reverse (pushed ps qs); settled = []; given = []; visits = 0; splits = 0; unspent = allowance; stopped = false; told = false }
+
+  -- ---- a step
+  abbrev pub deeper : Bool → Spot S → Spot S
+  deeper u x = record { piece = x .piece; halves = u ∷ x .halves }
+
+  -- the lower or the upper half of a node: of its second line or of its first
+  abbrev pub child : Bool → Bool → Node S → Node S
+  child true u n = record { a = n .a; b = deeper u (n .b) }
+  child false u n = record { a = deeper u (n .a); b = n .b }
+
+  abbrev pub larger : Node S → Bool
+  larger n = S .second (partOf (n .a)) (partOf (n .b))
+
+  abbrev pub none : List (Node S) → Bool
+  none [] = true
+  none (n ∷ r) = false
+
+  abbrev pub ended : Search S → Bool
+  ended m = m .stopped || none (m .stack)
+
+  abbrev pub giveUp : Node S → List (Node S) → Search S → Search S
+  giveUp n r m = record { stack = r; settled = m .settled; given = m .given ++ (n ∷ []); visits = suc (m .visits); splits = m .splits; unspent = m .unspent; stopped = m .stopped; told = false }
+
+  -- a split: at the depth limit, at no allowance, and otherwise
+  abbrev pub divide : Bool → ℕ → Node S → List (Node S) → Search S → Search S
+  divide true u n r m = giveUp n r m
+  divide false zero n r m = record { stack = m .stack; settled = m .settled; given = m .given; visits = suc (m .visits); splits = m .splits; unspent = zero; stopped = true; told = false }
+  divide false (suc u) n r m =
+      record { stack = child (larger n) false n ∷ child (larger n) true n ∷ r; settled = m .settled; given = m .given; visits = suc (m .visits); splits = suc (m .splits); unspent = u; stopped = m .stopped; told = false }
+
+  -- what a verdict for the top node does; nothing where no node waits
+  abbrev pub onTop : Verdict → List (Node S) → Search S → Search S
+  onTop Settled [] m = m
+  onTop Split [] m = m
+  onTop Unseparated [] m = m
+  onTop Settled (n ∷ r) m =
+      record { stack = r; settled = record { node = n; own = m .told } ∷ m .settled; given = m .given; visits = suc (m .visits); splits = m .splits; unspent = m .unspent; stopped = m .stopped; told = false }
+  onTop Split (n ∷ r) m = divide (leb limit (depth n)) (m .unspent) n r m
+  onTop Unseparated (n ∷ r) m = giveUp n r m
+
+  abbrev pub advance : Verdict → Search S → Search S
+  advance v m = onTop v (m .stack) m
+
+  -- the own verdict was asked and answered
+  abbrev pub isSettle : Verdict → Bool
+  isSettle Settled = true
+  isSettle Split = false
+  isSettle Unseparated = false
+
+  abbrev pub hear : Verdict → Search S → Search S
+  hear v m = record { stack = m .stack; settled = m .settled; given = m .given; visits = m .visits; splits = m .splits; unspent = m .unspent; stopped = m .stopped; told = isSettle v }

@@ -1,0 +1,3 @@
+pub mod Halving
+pub mod Points
+pub mod Slots

@@ -1,0 +1,123 @@
+-- The regions of the nodes left, one a turn, and the tests of a report. Assumes nothing.
+use mathlib.Core.Path.{_≡_, refl, sym, ap, _∙_}
+use mathlib.Core.Bool.{Bool, true, false, _&&_, cond}
+use mathlib.Core.List.{List, [], _∷_, _++_, append-assoc}
+use Prim.Native.Nat.{ℕ, zero, suc, _+_, _-_, _*_, _^_, _≤_, _<_}
+use native.Mathlib.Nat.{le-trans, mul-le-mul-right}
+use native.Mathlib.Numerals.{add-one}
+use native.Mathlib.Omega.{arith}
+use lib.Dec.{leb, eqb}
+use lib.ListN.{length, length-append}
+use lib.Ieee.{Float}
+use borrow.Author.Tests.{leb-true, eqb-true}
+use Rattle.lists.specs.Parts.{patch}
+use Rattle.lists.proofs.Parts.{patch-twice, patch-length}
+use Rattle.machine.specs.Merge.{merged}
+use Rattle.regions.specs.declared.Region.{Region}
+use Rattle.regions.specs.declared.Word.{Word}
+use Rattle.regions.specs.Regions.{merging, flat, flats, regionsIn}
+use Rattle.regions.specs.Reports.{wordFor, reportSlice}
+use Rattle.regions.proofs.Laws.{flats-length}
+use Rattle.states.specs.declared.State.{State}
+use Rattle.states.specs.declared.Counts.{Counts}
+use Rattle.states.specs.States.{Memory, memory, Sizes, sizes, needed, enough, topFits, searchWith, isSearch, over, countsOf}
+use Rattle.search.specs.Geometry.{Geometry}
+use Rattle.search.proofs.Tests.{and-first, and-second, slots-fit, room-all}
+use Rattle.report.specs.declared.Reported.{Reported}
+use Rattle.report.specs.declared.Reported.the-variants.{Told, Running, NoRoom}
+use Rattle.report.specs.Reports.{Reporting, reporting, slotRegion, leftRegions, rawAfter, writeReport, reportDef}
+
+-- slot k is there, of so many as there are nodes
+pub slot-below : (k n w len : ℕ) → k < n → n * w ≤ len → (k + 1) * w ≤ len
+slot-below k n w len h r = le-trans (mul-le-mul-right w (let g : k + 1 ≤ n = omega arith in g)) r
+
+flats-snoc : (rs : List Region) (r : Region) → flats (rs ++ (r ∷ [])) ≡ flats rs ++ flat r
+flats-snoc [] r = refl
+flats-snoc (x ∷ rs) r = ap (λ (l : List Float). flat x ++ l) (flats-snoc rs r) ∙ sym (append-assoc (flat x) (flats rs) (flat r))
+
+module _ (G : Geometry) (x : State) (nets1 nets2 ranges : List Float) where
+  pub left-length : (k : ℕ) → length (leftRegions G x nets1 nets2 ranges k) ≡ k
+  left-length zero = refl
+  left-length (suc k) = length-append (leftRegions G x nets1 nets2 ranges k) (slotRegion G x nets1 nets2 ranges k ∷ []) ∙ (let e = left-length k in omega arith)
+
+  pub left-turn : (raw₀ raw raw' : List Float) (g k : ℕ) (r : Region) → (g + k + 1) * 10 ≤ length raw₀
+      → raw ≡ patch raw₀ (g * 10) (flats (leftRegions G x nets1 nets2 ranges k)) → r ≡ slotRegion G x nets1 nets2 ranges k → raw' ≡ patch raw ((g + k) * 10) (flat r)
+      → raw' ≡ patch raw₀ (g * 10) (flats (leftRegions G x nets1 nets2 ranges (k + 1)))
+  left-turn raw₀ raw raw' g k r h e f e' =
+      let L = leftRegions G x nets1 nets2 ranges k in
+      let n : (g + k) * 10 ≡ g * 10 + length (flats L) = (let a = flats-length L in let b = left-length k in omega arith) in
+      e' ∙ ap (λ (l : List Float). patch l ((g + k) * 10) (flat r)) e
+      ∙ patch-twice raw₀ (g * 10) ((g + k) * 10) (flats L) (flat r) n (omega arith)
+      ∙ ap (λ (z : Region). patch raw₀ (g * 10) (flats L ++ flat z)) f
+      ∙ ap (patch raw₀ (g * 10)) (sym (flats-snoc L (slotRegion G x nets1 nets2 ranges k)) ∙ ap (λ (j : ℕ). flats (leftRegions G x nets1 nets2 ranges j)) (sym (add-one k)))
+
+  pub left-done : (raw₀ raw : List Float) (g k n : ℕ) → n ≤ k → k ≤ n → raw ≡ patch raw₀ (g * 10) (flats (leftRegions G x nets1 nets2 ranges k))
+      → raw ≡ patch raw₀ (g * 10) (flats (leftRegions G x nets1 nets2 ranges n))
+  left-done raw₀ raw g k n h h' e = e ∙ ap (λ (j : ℕ). patch raw₀ (g * 10) (flats (leftRegions G x nets1 nets2 ranges j))) (let z : k ≡ n = omega arith in z)
+
+-- nothing is written where there is nothing: the list before the first turn
+pub left-start : (G : Geometry) (x : State) (nets1 nets2 ranges raw : List Float) (g : ℕ) → raw ≡ patch raw (g * 10) (flats (leftRegions G x nets1 nets2 ranges 0))
+left-start G x nets1 nets2 ranges raw g = let z : g * 10 + 0 ≡ g * 10 = omega arith in sym (rw z (lib.ListN.take-append-drop (g * 10) raw))
+
+-- ---- the room of an accepted report
+few-waiting : (P n d : ℕ) → topFits P n d ≡ true → n ≤ P + 64
+few-waiting P zero d e = omega arith
+few-waiting P (suc n) d e =
+    let a = leb-true (suc n) (P + d) (and-first (leb (suc n) (P + d)) (leb d 64) e) in
+    let b = leb-true d 64 (and-second (leb (suc n) (P + d)) (leb d 64) e) in
+    omega arith
+
+pub record RoomLeft (x : State) (s : Sizes) (n : ℕ) : Type 0 where
+  pub nets1 : x .waiting * (4 * x .width1) ≤ s .nets1
+  pub nets2 : x .waiting * (4 * x .width2) ≤ s .nets2
+  pub ranges : x .waiting * 4 ≤ s .ranges
+  pub raw : (x .given + x .waiting) * 10 ≤ s .raw
+  pub slice : (x .given + x .waiting) * 10 ≤ n
+
+pub room-left : (x : State) (d : ℕ) (s : Sizes) (n : ℕ) → enough (needed x) s ≡ true → leb (x .pairs * suc (x .quota) * 10) n ≡ true → searchWith x d ≡ true
+    → RoomLeft x s n
+room-left x d s n e l f =
+    let b1 = topFits (x .pairs) (x .waiting) d in
+    let b2 = eqb (x .pairs + x .splits) (x .settled + x .given + x .waiting) in
+    let b3 = eqb (x .splits + x .unspent) (x .quota * x .pairs) in
+    let b4 = leb (x .visits) (x .splits + x .settled + x .given + 1) in
+    let f2 = and-second b1 (b2 && (b3 && b4)) f in
+    let w = few-waiting (x .pairs) (x .waiting) d (and-first b1 (b2 && (b3 && b4)) f) in
+    let bal = eqb-true (x .pairs + x .splits) (x .settled + x .given + x .waiting) (and-first b2 (b3 && b4) f2) in
+    let all = eqb-true (x .splits + x .unspent) (x .quota * x .pairs) (and-first b3 b4 (and-second b2 (b3 && b4) f2)) in
+    let R = room-all x s e in
+    let k = leb-true (x .pairs * suc (x .quota) * 10) n l in
+    let g : x .given + x .waiting ≤ x .pairs * suc (x .quota) = omega arith in
+    record {
+      nets1 = slots-fit (x .pairs) (x .waiting) (4 * x .width1) (s .nets1) w (R .nets1);
+      nets2 = slots-fit (x .pairs) (x .waiting) (4 * x .width2) (s .nets2) w (R .nets2);
+      ranges = slots-fit (x .pairs) (x .waiting) 4 (s .ranges) w (R .ranges);
+      raw = le-trans (mul-le-mul-right 10 g) (R .raw);
+      slice = le-trans (mul-le-mul-right 10 g) k }
+
+-- ---- a report: one test a return
+module _ (G : Geometry) (x : State) (u : Memory) (slice : List Float) where
+  pub report-running : over x ≡ false → reporting Running u slice ≡ reportDef G x u slice
+  report-running o = rw o refl
+
+  pub report-short : over x ≡ true → enough (needed x) (sizes u) ≡ false → reporting NoRoom u slice ≡ reportDef G x u slice
+  report-short o e = rw (o, e) refl
+
+  pub report-cramped : over x ≡ true → enough (needed x) (sizes u) ≡ true → leb (x .pairs * suc (x .quota) * 10) (length slice) ≡ false → reporting NoRoom u slice ≡ reportDef G x u slice
+  report-cramped o e l = rw (o, e, l) refl
+
+  pub report-forged : over x ≡ true → enough (needed x) (sizes u) ≡ true → leb (x .pairs * suc (x .quota) * 10) (length slice) ≡ true → isSearch x u ≡ false → reporting NoRoom u slice ≡ reportDef G x u slice
+  report-forged o e l s = rw (o, e, l, s) refl
+
+  pub report-told : over x ≡ true → enough (needed x) (sizes u) ≡ true → leb (x .pairs * suc (x .quota) * 10) (length slice) ≡ true → isSearch x u ≡ true
+      → (w : Word) (c : Counts) (n : ℕ) (raw out : List Float) → w ≡ wordFor (x .given) (x .waiting) → c ≡ countsOf x
+      → raw ≡ rawAfter G x u → n ≡ length (merged merging (regionsIn (x .given + x .waiting) raw)) → out ≡ reportSlice (x .given + x .waiting) (merged merging (regionsIn (x .given + x .waiting) raw)) slice
+      → reporting (Told w c n) (memory (u .nets1) (u .nets2) (u .ranges) (u .depths) raw) out ≡ reportDef G x u slice
+  report-told o e l s w c n raw out ew ec er en eo =
+      let fn = en ∙ ap (λ (r : List Float). length (merged merging (regionsIn (x .given + x .waiting) r))) er in
+      let fo = eo ∙ ap (λ (r : List Float). reportSlice (x .given + x .waiting) (merged merging (regionsIn (x .given + x .waiting) r)) slice) er in
+      (λ i. reporting (Told (ew i) (ec i) (fn i)) (memory (u .nets1) (u .nets2) (u .ranges) (u .depths) (er i)) (fo i))
+      ∙ accepted
+    where
+      accepted : writeReport G x u slice ≡ reportDef G x u slice
+      accepted = rw (o, e, l, s) refl

@@ -1,0 +1,5 @@
+pub mod Laws
+pub mod Tests
+pub mod Acts
+pub mod Owns
+pub mod Runs

@@ -1,0 +1,5 @@
+pub mod Geometry
+pub mod Nets
+pub mod Steps
+pub mod Runs
+pub mod Writes

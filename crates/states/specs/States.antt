@@ -1,0 +1,83 @@
+-- The state, the lent memory, and number 19's tests of both (document 01, the paragraph under the table). Definitions only.
+use mathlib.Core.List.{List}
+use mathlib.Core.Bool.{Bool, true, false, _&&_, _||_, cond}
+use Prim.Native.Nat.{ℕ, zero, suc, _+_, _*_}
+use lib.Dec.{leb, eqb}
+use lib.ListN.{length, getD}
+use lib.Ieee.{Float}
+use Rattle.lists.specs.Parts.{block}
+use Rattle.machine.specs.Machine.{limit}
+use Rattle.states.specs.declared.State.{State}
+use Rattle.states.specs.declared.Counts.{Counts}
+
+-- the lent slices; node k owns slot k of the nets, the ranges and the depths
+pub record Memory : Type 0 where
+  pub nets1 : List Float
+  pub nets2 : List Float
+  pub ranges : List Float
+  pub depths : List ℕ
+  pub raw : List Float
+
+abbrev pub memory : List Float → List Float → List Float → List ℕ → List Float → Memory
+memory a b r d w = record { nets1 = a; nets2 = b; ranges = r; depths = d; raw = w }
+
+-- five lengths: of a memory's slices, of what is lent of them, of what is needed
+pub record Sizes : Type 0 where
+  pub nets1 : ℕ
+  pub nets2 : ℕ
+  pub ranges : ℕ
+  pub depths : ℕ
+  pub raw : ℕ
+
+abbrev pub sizes : Memory → Sizes
+sizes u = record { nets1 = length (u .nets1); nets2 = length (u .nets2); ranges = length (u .ranges); depths = length (u .depths); raw = length (u .raw) }
+
+-- "nets (P + 64) × 4 × width for each line; node ranges 4 × (P + 64), and as many depths as nodes; raw regions 10 × P × (S + 1)"
+abbrev pub needed : State → Sizes
+needed x = record {
+    nets1 = (x .pairs + limit) * (4 * x .width1); nets2 = (x .pairs + limit) * (4 * x .width2);
+    ranges = (x .pairs + limit) * 4; depths = (x .pairs + limit) * 1; raw = x .pairs * suc (x .quota) * 10 }
+
+abbrev pub enough : Sizes → Sizes → Bool
+enough need have = leb (need .nets1) (have .nets1) && (leb (need .nets2) (have .nets2) && (leb (need .ranges) (have .ranges) && (leb (need .depths) (have .depths) && leb (need .raw) (have .raw))))
+
+-- the own verdict is lent the nets and the depths
+abbrev pub enoughOwn : Sizes → Sizes → Bool
+enoughOwn need have = leb (need .nets1) (have .nets1) && (leb (need .nets2) (have .nets2) && leb (need .depths) (have .depths))
+
+-- ---- "a state that is no search's": the five tests
+-- the depth in slot k
+abbrev pub depthAt : List ℕ → ℕ → ℕ
+depthAt depths k = getD (block 1 k depths) 0 0
+
+-- the count waiting is at most P + the top node's depth d, if one waits, and that depth is at most 64
+abbrev pub topFits : ℕ → ℕ → ℕ → Bool
+topFits P zero d = true
+topFits P (suc k) d = leb (suc k) (P + d) && leb d limit
+
+abbrev pub searchWith : State → ℕ → Bool
+searchWith x d =
+    topFits (x .pairs) (x .waiting) d
+    && (eqb (x .pairs + x .splits) (x .settled + x .given + x .waiting)
+    && (eqb (x .splits + x .unspent) (x .quota * x .pairs)
+    && leb (x .visits) (x .splits + x .settled + x .given + 1)))
+
+-- the top node's depth, of so many waiting
+abbrev pub topDepth : ℕ → List ℕ → ℕ
+topDepth zero depths = 0
+topDepth (suc k) depths = depthAt depths k
+
+abbrev pub isSearch : State → Memory → Bool
+isSearch x u = searchWith x (topDepth (x .waiting) (u .depths))
+
+abbrev pub isZero : ℕ → Bool
+isZero zero = true
+isZero (suc n) = false
+
+-- the search has ended: a split came due at no allowance, or no node waits
+abbrev pub over : State → Bool
+over x = x .stopped || isZero (x .waiting)
+
+-- the result; left is the nodes waiting at the end
+abbrev pub countsOf : State → Counts
+countsOf x = record { pairs = x .pairs; visits = x .visits; splits = x .splits; settled = x .settled; given = x .given; left = cond (over x) (x .waiting) 0; unspent = x .unspent }

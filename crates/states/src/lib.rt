@@ -1,0 +1,145 @@
+// The state of a search, and number 19's tests of it and of the lent memory.
+ghost use mathlib.Core.Path.{_≡_};
+ghost use Prim.Native.Nat.{_+_, _*_, _≤_};
+ghost use Rattle.states.specs.States.{Sizes, needed, enough, enoughOwn, topDepth, topFits, searchWith, over, countsOf};
+
+// All that a search is, but for the nodes and regions in the lent memory.
+pub struct State {
+    // starting pairs, P
+    pub pairs: u16,
+    // splits per pair, S
+    pub quota: u16,
+    // nodes waiting
+    pub waiting: u32,
+    // steps taken
+    pub visits: u64,
+    // halving steps, and what is left of S × P
+    pub splits: u32,
+    pub unspent: u32,
+    // nodes settled, and nodes given up
+    pub settled: u32,
+    pub given: u32,
+    // points of each line's nets
+    pub width1: u8,
+    pub width2: u8,
+    pub gap: f64,
+    // a split came due with no allowance left
+    pub stopped: bool,
+}
+
+// A search's result: document 01's counts, and the allowance left.
+pub struct Counts {
+    pub pairs: u16,
+    pub visits: u64,
+    pub splits: u32,
+    pub settled: u32,
+    pub given: u32,
+    // nodes waiting at the end; 0 before it
+    pub left: u32,
+    pub unspent: u32,
+}
+
+pub fn ended(st: State) -> bool
+    ensures { λ r. ⌜ r ≡ over st ⌝ }
+{
+    if st.stopped {
+        return true;
+    }
+    st.waiting == 0
+}
+
+// The result: "pairs, visits (steps taken), splits, settled, given, left".
+pub fn result(st: State) -> Counts
+    ensures { λ r. ⌜ r ≡ countsOf st ⌝ }
+{
+    let left = if ended(st) { st.waiting } else { 0 };
+    Counts {
+        pairs: st.pairs,
+        visits: st.visits,
+        splits: st.splits,
+        settled: st.settled,
+        given: st.given,
+        left,
+        unspent: st.unspent,
+    }
+}
+
+// Whether nets and depths of these lengths are enough for the own verdict.
+pub fn has_room_to_judge(st: State, nets1: usize, nets2: usize, depths: usize) -> bool
+    ensures { λ r. ⌜ r ≡ enoughOwn (needed st) (record { nets1 = nets1; nets2 = nets2; ranges = 0; depths = depths; raw = 0 }) ⌝ }
+{
+    let nodes = st.pairs as usize + 64;
+    if nets1 < nodes * (4 * (st.width1 as usize)) {
+        return false;
+    }
+    if nets2 < nodes * (4 * (st.width2 as usize)) {
+        return false;
+    }
+    depths >= nodes * 1
+}
+
+// Whether lent slices of these lengths are enough.
+pub fn has_room(st: State, nets1: usize, nets2: usize, ranges: usize, depths: usize, raw: usize) -> bool
+    ensures { λ r. ⌜ r ≡ enough (needed st) (record { nets1 = nets1; nets2 = nets2; ranges = ranges; depths = depths; raw = raw }) ⌝ }
+{
+    let nodes = st.pairs as usize + 64;
+    if nets1 < nodes * (4 * (st.width1 as usize)) {
+        return false;
+    }
+    if nets2 < nodes * (4 * (st.width2 as usize)) {
+        return false;
+    }
+    if ranges < nodes * 4 {
+        return false;
+    }
+    if depths < nodes * 1 {
+        return false;
+    }
+    raw >= st.pairs as usize * (st.quota as usize + 1) * 10
+}
+
+// The depth of the top node of so many waiting; 0 where its slot isn't lent.
+pub fn top_depth(depths: &[u8], waiting: u32) -> u8
+    ensures { λ r. ⌜ r ≡ topDepth waiting (now (depths .entry)) ⌝ }
+{
+    if waiting == 0 {
+        return 0;
+    }
+    let k = waiting as usize - 1;
+    if k < depths.len() {
+        return depths[k];
+    }
+    0
+}
+
+// Whether a count waiting is one that a search can have, with the top node's depth.
+fn top_fits(pairs: u16, waiting: u32, depth: u8) -> bool
+    ensures { λ r. ⌜ r ≡ topFits pairs waiting depth ⌝ }
+{
+    if waiting == 0 {
+        return true;
+    }
+    if waiting > pairs as u32 + depth as u32 {
+        return false;
+    }
+    depth <= 64
+}
+
+// Whether the state, with the top node's depth, is some search's.
+pub fn is_search(st: State, depth: u8) -> bool
+    ensures { λ r. ⌜ r ≡ searchWith st depth ⌝ }
+{
+    if !top_fits(st.pairs, st.waiting, depth) {
+        return false;
+    }
+    let splits = st.splits as u64;
+    let settled = st.settled as u64;
+    let given = st.given as u64;
+    if st.pairs as u64 + splits != settled + given + st.waiting as u64 {
+        return false;
+    }
+    if splits + st.unspent as u64 != st.quota as u64 * (st.pairs as u64) {
+        return false;
+    }
+    st.visits <= splits + settled + given + 1
+}

@@ -1,0 +1,172 @@
+#!/usr/bin/env python3
+"""Compares sheet programs on the drawn sheets and on random ones.
+
+  compare.py [options] SEED N PROGRAM PROGRAM ...
+
+Every program gets the same sheets: the drawn ones, then N random ones of the
+seed. A program that answers a batch (--many) gets batches, any other is run
+once a sheet. Answers are compared byte for byte with the first program's.
+
+  --pieces      compare the nets of the pieces too (each program is run once a
+                sheet, with --pieces)
+  --no-drawn    leave the drawn sheets out
+  --replay DIR  take the sheets from DIR/sheets.bin and hold every program
+                against DIR/answers.txt; SEED and N are left out
+  --save DIR    where sheets with a difference are saved (default: .)
+
+Exit 1 on a difference.
+"""
+import collections
+import os
+import subprocess
+import sys
+
+import sheets
+
+BATCH = 500
+SHOWN = 10
+
+
+def parted(text):
+    """The answers of a batch: each ends with a line of three dashes."""
+    parts = text.split('---\n')
+    return parts[:-1] if parts[-1] == '' else None
+
+
+def run(command, data):
+    done = subprocess.run(command, input=data, stdout=subprocess.PIPE, stderr=subprocess.PIPE)
+    text = done.stdout.decode('ascii', 'replace')
+    return text if done.returncode == 0 else text + 'exit %d\n' % done.returncode
+
+
+class Program:
+    def __init__(self, path, pieces):
+        self.path = os.path.abspath(path)
+        self.name = path
+        self.pieces = pieces
+        self.many = not pieces and self.takes_batches()
+
+    def takes_batches(self):
+        two = sheets.packed(sheets.example()) * 2
+        try:
+            text = run([self.path, '--many'], two)
+        except OSError as e:
+            sys.exit('%s: %s' % (self.path, e))
+        return text == (sheets.EXAMPLE_ANSWER + '---\n') * 2
+
+    def answers(self, batch):
+        if self.many:
+            out = parted(run([self.path, '--many'], b''.join(sheets.packed(d) for d in batch)))
+            if out is not None and len(out) == len(batch):
+                return out
+            print('%s: no whole answer to a batch; each sheet alone' % self.name)
+        command = [self.path] + (['--pieces'] if self.pieces else [])
+        return [run(command, d) for d in batch]
+
+
+def batches(source):
+    batch = []
+    for item in source:
+        batch.append(item)
+        if len(batch) == BATCH:
+            yield batch
+            batch = []
+    if batch:
+        yield batch
+
+
+def key(answer):
+    """What an answer counts as in the summary."""
+    first = answer.split('\n', 1)[0].split(' ')
+    return ' '.join(first[:3]) if first[0] == 'refused' else first[0]
+
+
+def key_order(k):
+    parts = k.split(' ')
+    return (1, int(parts[1]), parts[2]) if parts[0] == 'refused' and len(parts) == 3 else (0, 0, k)
+
+
+class Comparison:
+    def __init__(self, save):
+        self.save = save
+        self.count = 0
+        self.different = 0
+        self.seen = collections.Counter()
+
+    def difference(self, name, data, programs, texts):
+        self.different += 1
+        if self.different > SHOWN:
+            return
+        path = os.path.join(self.save, 'different-%d.sheet' % self.different)
+        with open(path, 'wb') as f:
+            f.write(data)
+        print('difference on %s (%d bytes, saved as %s)' % (name, len(data), path))
+        for program, text in zip(programs, texts):
+            print('  %s:' % program)
+            for l in text.split('\n')[:4]:
+                print('    ' + l[:200])
+
+    def batch(self, items, programs):
+        """items: (name, data, wanted answer or None)."""
+        data = [d for _, d, _ in items]
+        lists = [p.answers(data) for p in programs]
+        names = [p.name for p in programs]
+        for i, (name, d, wanted) in enumerate(items):
+            texts = [l[i] for l in lists]
+            self.count += 1
+            self.seen[key(texts[0])] += 1
+            if wanted is not None and any(t != wanted for t in texts):
+                self.difference(name, d, ['the list'] + names, [wanted] + texts)
+            elif any(t != texts[0] for t in texts):
+                self.difference(name, d, names, texts)
+
+    def summary(self):
+        for k in sorted(self.seen, key=key_order):
+            print('%7d  %s' % (self.seen[k], k))
+        print('%d sheets, %d different' % (self.count, self.different))
+
+
+def replay(folder):
+    with open(os.path.join(folder, 'sheets.bin'), 'rb') as f:
+        data = sheets.unpacked(f.read())
+    with open(os.path.join(folder, 'answers.txt')) as f:
+        answers = parted(f.read())
+    if answers is None or len(answers) != len(data):
+        sys.exit('%s: not as many answers as sheets' % folder)
+    return [('replay %d' % i, d, a) for i, (d, a) in enumerate(zip(data, answers))]
+
+
+def generated(seed, count, with_drawn):
+    if with_drawn:
+        for name, data in sheets.drawn():
+            wanted = sheets.EXAMPLE_ANSWER if name == 'example' else None
+            yield 'drawn ' + name, data, wanted
+    for i, (kind, data) in enumerate(sheets.random_sheets(seed, count)):
+        yield 'random %d (%s, seed %d)' % (i, kind, seed), data, None
+
+
+def main(args):
+    flags = {'--pieces': False, '--no-drawn': False, '--replay': None, '--save': '.'}
+    while args and args[0] in flags:
+        flag = args.pop(0)
+        flags[flag] = args.pop(0) if flag in ('--replay', '--save') else True
+    if flags['--replay']:
+        source = replay(flags['--replay'])
+    elif len(args) >= 3:
+        seed, count = int(args.pop(0)), int(args.pop(0))
+        source = generated(seed, count, not flags['--no-drawn'])
+    if not args:
+        sys.exit(__doc__)
+    if flags['--pieces'] and not flags['--replay']:
+        source = ((name, data, None) for name, data, _ in source)
+    programs = [Program(path, flags['--pieces']) for path in args]
+    os.makedirs(flags['--save'], exist_ok=True)
+    comparison = Comparison(flags['--save'])
+    for items in batches(source):
+        comparison.batch(items, programs)
+    comparison.summary()
+    return 1 if comparison.different else 0
+
+
+if __name__ == '__main__':
+    sys.exit(main(sys.argv[1:]))

@@ -1,0 +1,218 @@
+#!/usr/bin/env python3
+"""How sharp a list of sheets is: edits of the model that must be seen.
+
+  edits.py DIR [SEED N]
+
+Each edit below makes one mistake in clearance.c. The edited program is built
+and run on the sheets of DIR/sheets.bin (or, with SEED and N, on the drawn sheets
+and N random ones); an edit is seen if an answer differs from the unedited
+program's. Exit 1 if an edit is not seen.
+"""
+import os
+import subprocess
+import sys
+import tempfile
+
+HERE = os.path.dirname(os.path.abspath(__file__))
+sys.path.insert(0, os.path.dirname(HERE))
+import sheets  # noqa: E402
+
+EDITS = [
+    # sheet walk
+    ('1 over 16,384', 'length > MAX_BYTES) return 1', 'length >= MAX_BYTES) return 1'),
+    ('1 length 0', 'length == 0 || length % 4', 'length % 4'),
+    ('2 before 3', 'if (w->at == w->count) return 3;\n    if (w->words[w->at] >> 28 != kind)',
+     'if (w->at == w->count) return 2;\n    if (w->words[w->at] >> 28 != kind)'),
+    ('weights count 0', 'if (l->weight_count == 0) return 2;', ''),
+    ('weights count 0 gives 3', 'if (l->weight_count == 0) return 2;', 'if (l->weight_count == 0) return 3;'),
+    ('end count', 'if (count != 0) return 2;', ''),
+    ('end count after words', 'if (count != 0) return 2;\n    return w->at == w->count ? 0 : 3;',
+     'if (w->at != w->count) return 3;\n    return count != 0 ? 2 : 0;'),
+    ('words after the end', 'return w->at == w->count ? 0 : 3;', 'return 0;'),
+    ('no weights at the end of the sheet', '    if (w->at == w->count) return 3;\n    if (w->words[w->at] >> 28 != KIND_WEIGHTS)',
+     '    if (w->at == w->count) return 2;\n    if (w->words[w->at] >> 28 != KIND_WEIGHTS)'),
+    ('poles count wraps', 'take_floats(w, 3 * (uint64_t)l->pole_count, l->poles)',
+     'take_floats(w, 24 * l->pole_count / 8, l->poles)'),
+    # admission
+    ('degree 0', 'l->degree < 1 || ', ''),
+    ('degree 26', 'MAX_DEGREE = 25,\n    MAX_WIDTH = MAX_DEGREE + 1', 'MAX_DEGREE = 26,\n    MAX_WIDTH = MAX_DEGREE + 1'),
+    ('1 knot', 'n < 2 || n > MAX_KNOTS', 'n < 1 || n > MAX_KNOTS'),
+    ('129 knots', 'n < 2 || n > MAX_KNOTS', 'n < 2 || n > MAX_KNOTS + 1'),
+    ('127 knots', 'n < 2 || n > MAX_KNOTS', 'n < 2 || n >= MAX_KNOTS'),
+    ('other count of multiplicities', ' || l->mult_count != n) return 5', ') return 5'),
+    ('NaN knot', 'if (!within(-MAX_KNOT, l->knots[i], MAX_KNOT)) return 0;',
+     'if (l->knots[i] < -MAX_KNOT || l->knots[i] > MAX_KNOT) return 0;'),
+    ('knot 2^20', 'if (!within(-MAX_KNOT, l->knots[i], MAX_KNOT)) return 0;',
+     'if (!(-MAX_KNOT < l->knots[i] && l->knots[i] < MAX_KNOT)) return 0;'),
+    ('equal knots', 'l->knots[i] > l->knots[i - 1]', 'l->knots[i] >= l->knots[i - 1]'),
+    ('7 before 6', 'if (!knots_in_limits(l)) return 6;\n    if (!knots_rise(l)) return 7;',
+     'if (!knots_rise(l)) return 7;\n    if (!knots_in_limits(l)) return 6;'),
+    ('end multiplicity', '(end ? l->degree + 1 : l->degree)', '(l->degree)'),
+    ('inner multiplicity', '(end ? l->degree + 1 : l->degree)', '(l->degree + 1)'),
+    ('multiplicity as signed', 'if (l->mults[i] > (end ? l->degree + 1 : l->degree)) return 0;',
+     'if ((int32_t)l->mults[i] > (int32_t)(end ? l->degree + 1 : l->degree)) return 0;'),
+    ('9 before 8', 'if (!mults_in_limits(l)) return 8;\n    if (!mults_above_zero(l)) return 9;',
+     'if (!mults_above_zero(l)) return 9;\n    if (!mults_in_limits(l)) return 8;'),
+    ('multiplicity 0', '    if (!mults_above_zero(l)) return 9;\n', ''),
+    ('negative pole count', 'return (int64_t)l->pole_count == sum - l->degree - 1;',
+     'return (int64_t)l->pole_count == (sum - l->degree - 1 < 0 ? 0 : sum - l->degree - 1);'),
+    ('11 before 10', 'if (!pole_count_fits(l)) return 10;\n    if (l->pole_count < l->degree + 1 || l->pole_count > MAX_POLES) return 11;',
+     'if (l->pole_count < l->degree + 1 || l->pole_count > MAX_POLES) return 11;\n    if (!pole_count_fits(l)) return 10;'),
+    ('too few poles', 'l->pole_count < l->degree + 1 ||', 'l->pole_count < 1 ||'),
+    ('too many poles', 'l->pole_count > MAX_POLES) return 11', 'l->pole_count > MAX_POLES + 1) return 11'),
+    ('128 poles', 'l->pole_count > MAX_POLES) return 11', 'l->pole_count >= MAX_POLES) return 11'),
+    ('12', 'if (l->weight_count != l->pole_count) return 12;', 'if (l->weight_count < l->pole_count) return 12;'),
+    ('least weight', '#define MIN_WEIGHT 0.0009765625', '#define MIN_WEIGHT 0.0009765626'),
+    ('least weight 0', '#define MIN_WEIGHT 0.0009765625', '#define MIN_WEIGHT 5e-324'),
+    ('greatest weight', '#define MAX_WEIGHT 1024.0', '#define MAX_WEIGHT 1023.0'),
+    ('coordinate 2^24', '#define MAX_COORDINATE 16777216.0', '#define MAX_COORDINATE 16777215.0'),
+    ('lines by number', 'int no = line_fault(&sheet->line[k]);',
+     'int no = line_fault(&sheet->line[k]), no2 = line_fault(&sheet->line[1]);\n        if (no2 && no2 < no) return refusal(no2, 2);'),
+    # question
+    ('empty range', 'lo >= hi) return 0;', 'lo > hi) return 0;'),
+    ('range below the bounds', 'return l->flat[l->degree] <= lo && hi <=', 'return hi <='),
+    ('bounds are the end knots', 'l->flat[l->degree] <= lo && hi <= l->flat[l->pole_count]',
+     'l->knots[0] <= lo && hi <= l->knots[l->knot_count - 1]'),
+    ('gap 0', 'within(0.0, sheet->gap, MAX_GAP)', 'within(5e-324, sheet->gap, MAX_GAP)'),
+    ('gap 2^24', '#define MAX_GAP 16777216.0', '#define MAX_GAP 16777215.0'),
+    ('S 257', 'sheet->splits_per_pair > MAX_SPLITS)', 'sheet->splits_per_pair > MAX_SPLITS + 1)'),
+    ('S 256', 'sheet->splits_per_pair > MAX_SPLITS)', 'sheet->splits_per_pair >= MAX_SPLITS)'),
+    ('17 before 16', 'if (!within(0.0, sheet->gap, MAX_GAP)) return refusal(16, 0);\n',
+     'if (sheet->splits_per_pair > MAX_SPLITS) return refusal(17, 0);\n    if (!within(0.0, sheet->gap, MAX_GAP)) return refusal(16, 0);\n'),
+    ('15 of the first only', 'for (int k = 0; k < 2; k++)\n        if (!range_fits', 'for (int k = 0; k < 1; k++)\n        if (!range_fits'),
+    ('18', 'if (!(breaks[i - 1] < t && t < breaks[i])) return 0;', 'if (!(breaks[i - 1] <= t && t < breaks[i])) return 0;'),
+    ('18, upper', 'if (!(breaks[i - 1] < t && t < breaks[i])) return 0;', 'if (!(breaks[i - 1] < t && t <= breaks[i])) return 0;'),
+    ('18 on all knots', 'int n = fill_breaks(l, sheet->range[k], s->breaks[k]);',
+     'int n = fill_breaks(l, sheet->range[k], s->breaks[k]);\n        if (!breaks_have_middles(l->knots, (int)l->knot_count)) return refusal(18, k + 1);'),
+    # pieces
+    ('breaks at lo', 'if (range[0] < l->knots[i] &&', 'if (range[0] <= l->knots[i] &&'),
+    ('span from the right', 'l->flat[s + 1] <= u) s++', 'l->flat[s + 1] < u - 1e-3) s++'),
+    ('knots not relative', 'around[p - j] = -(u - l->flat[s + 1 - j]);\n        around[p - 1 + j] = l->flat[s + j] - u;',
+     'around[p - j] = l->flat[s + 1 - j];\n        around[p - 1 + j] = l->flat[s + j];'),
+    ('quotient for reciprocal', 'double alpha = (x - low) * inverse;',
+     'double alpha = (x - low) / (around[p + j - r] - low); (void)inverse;'),
+    ('other blend', 'd[j][i] = (1.0 - alpha) * d[j - 1][i] + alpha * d[j][i];', 'd[j][i] = d[j - 1][i] + alpha * (d[j][i] - d[j - 1][i]);'),
+    ('start and end changed over', 'double x = r <= k ? around[p] : around[p - 1];', 'double x = r < k ? around[p] : around[p - 1];'),
+    ('last pole first', 'for (int j = 0; j <= p; j++) {\n            homogeneous(', 'for (int j = p; j >= 0; j--) {\n            homogeneous('),
+    ('weights left out', 'double w = l->rational ? l->weights[i] : 1.0;', 'double w = 1.0;'),
+    ('weights not multiplied', 'out[c] = l->poles[3 * i + c] * w;', 'out[c] = l->poles[3 * i + c];'),
+    ('whole span', '    restrict_net(net, (int)l->degree, (t0 - a) / (b - a), (t1 - a) / (b - a));\n', ''),
+    ('other interpolation', 'out[c] = a[c] + f * (b[c] - a[c]);', 'out[c] = (1.0 - f) * a[c] + f * b[c];'),
+    ('cut at f1', 'g = (f1 - f0) / (1.0 - f0);', 'g = f1;'),
+    ('no lower cut', 'if (f0 > 0.0) {', 'if (f0 > 0.5) {'),
+    ('upper cut unless 1', 'if (g < 1.0) {', 'if (!(g >= 1.0)) {'),
+    # halving
+    ('halves first', 'static double middle(double a, double b)\n{\n    return 0.5 * (a + b);', 'static double middle(double a, double b)\n{\n    return 0.5 * a + 0.5 * b;'),
+    ('halves by difference', 'rest[x] = middle(rest[x], rest[x + 4]);', 'rest[x] = rest[x] + 0.5 * (rest[x + 4] - rest[x]);'),
+    ('one round too few', 'for (int x = 0; x < 4 * (width - 1 - r); x++)', 'for (int x = 0; x < 4 * (width - 1 - r) - (r > 1 ? 4 : 0); x++)'),
+    # boxes and tests
+    ('no measure', 'if (!within(-MAX_MEASURE, x, MAX_MEASURE)) h->measured = 0;', ''),
+    ('NaN in measure', 'if (!within(-MAX_MEASURE, x, MAX_MEASURE)) h->measured = 0;', 'if (x < -MAX_MEASURE || x > MAX_MEASURE) h->measured = 0;'),
+    ('measure 2^24', '#define MAX_MEASURE 33554432.0', '#define MAX_MEASURE 16777216.0'),
+    ('box of a NaN net', 'h->box[c] = h->measured ? lo : -INFINITY;', 'h->box[c] = lo;'),
+    ('measure by the first net only', 'if (!a->measured || !b->measured) return UNSEPARATED;', 'if (!a->measured) return UNSEPARATED;'),
+    ('boxes apart at equality', 'if (a[c] > b[c + 3] + gap || b[c] > a[c + 3] + gap) return 1;', 'if (a[c] >= b[c + 3] + gap || b[c] > a[c + 3] + gap) return 1;'),
+    ('boxes apart at equality, second', 'if (a[c] > b[c + 3] + gap || b[c] > a[c + 3] + gap) return 1;', 'if (a[c] > b[c + 3] + gap || b[c] >= a[c + 3] + gap) return 1;'),
+    ('boxes by difference', 'if (a[c] > b[c + 3] + gap ||', 'if (a[c] - b[c + 3] > gap ||'),
+    ('boxes without z', 'for (int c = 0; c < 3; c++)\n        if (a[c] >', 'for (int c = 0; c < 2; c++)\n        if (a[c] >'),
+    ('boxes without gap', 'if (boxes_apart(a->box, b->box, gap)) return SETTLED;', 'if (boxes_apart(a->box, b->box, 0.0)) return SETTLED;'),
+    ('sizes without root', 'return sqrt(x * x + y * y + z * z);', 'return x * x + y * y + z * z;'),
+    ('gap not times the axis', 'gap = gap * sqrt(dot(axis, axis));', ''),
+    ('apart at equality', 'return a0 > b1 + gap || b0 > a1 + gap;', 'return a0 >= b1 + gap || b0 > a1 + gap;'),
+    ('apart by difference', 'return a0 > b1 + gap || b0 > a1 + gap;', 'return a0 - b1 > gap || b0 - a1 > gap;'),
+    ('apart one way', 'return a0 > b1 + gap || b0 > a1 + gap;', 'return a0 > b1 + gap;'),
+    ('no other normal', '        n = cross(ca, sub(b->point[0], a->point[0]));', '        n = cross(ca, sub(a->point[0], a->point[0]));'),
+    ('no normal axis', 'return apart_along(n, a, b, gap) || apart', 'return apart'),
+    ('no first plane axis', ' || apart_along(cross(ca, n), a, b, gap)', ''),
+    ('no second plane axis', '\n        || apart_along(cross(cb, n), a, b, gap)', ''),
+    ('equal chords: the second', 'int first = dot(ca, ca) >= dot(cb, cb);', 'int first = dot(ca, ca) > dot(cb, cb);'),
+    ('the shorter chord', 'int first = dot(ca, ca) >= dot(cb, cb);', 'int first = dot(ca, ca) <= dot(cb, cb);'),
+    ('chord of length 0', '    if (!(length > 0.0)) return 0;\n', ''),
+    ('line test strict', 'origin), axis)) <= gap)) return 0;', 'origin), axis)) < gap)) return 0;'),
+    ('line test of the first only', 'return near_line(a, origin, *axis, gap) && near_line(b, origin, *axis, gap);', 'return near_line(a, origin, *axis, gap);'),
+    ('line test of the second only', 'return near_line(a, origin, *axis, gap) && near_line(b, origin, *axis, gap);', 'return near_line(b, origin, *axis, gap);'),
+    ('line test without the length', '    gap = gap * length;\n', ''),
+    ('in line is unseparated', 'return apart_along(axis, a, b, gap) ? SETTLED : UNSEPARATED;', 'return UNSEPARATED;'),
+    ('no line test', 'if (!along_one_line(a, b, gap, &axis)) return SPLIT;', 'if (!along_one_line(a, b, gap, &axis) || 1) return SPLIT;'),
+    # search
+    ('pairs second line first', 'if (push) push_pair(s, i, j);', 'if (push) push_pair(s, s->piece_count[0] - 1 - i, j);'),
+    ('all pairs pushed', 'if (boxes_apart(boxes[0][i], boxes[1][j], s->gap)) continue;', ''),
+    ('13 pairs', 'LENT_RANGES = 304,\n    LENT_DEPTHS = 76', 'LENT_RANGES = 308,\n    LENT_DEPTHS = 77'),
+    ('820 regions', 'LENT_REGIONS = 8190', 'LENT_REGIONS = 8200'),
+    ('818 regions', 'LENT_REGIONS = 8190', 'LENT_REGIONS = 8180'),
+    ('78 pieces', 'if (4 * s->width[k] * s->piece_count[k] > LENT_PIECES) return 19;', 'if (s->piece_count[k] > 78) return 19;'),
+    ('19 of the first pieces only', 'for (int k = 0; k < 2; k++)\n        if (4 * s->width', 'for (int k = 0; k < 1; k++)\n        if (4 * s->width'),
+    ('regions S x P', '10 * pairs * (splits + 1) <= LENT_REGIONS', '10 * pairs * splits <= LENT_REGIONS'),
+    ('depth 63', 'MAX_DEPTH = 64', 'MAX_DEPTH = 63'),
+    ('allowance S', 's->unspent = sheet->splits_per_pair * s->pairs;', 's->unspent = sheet->splits_per_pair;'),
+    ('node at allowance 0 dropped', 's->ended = 1;\n            return;', 's->ended = 1;\n            s->waiting--;\n            return;'),
+    ('visit at allowance 0 not counted', 's->ended = 1;\n            return;', 's->ended = 1;\n            s->visits--;\n            return;'),
+    ('end as soon as the allowance is 0', 's->unspent--;\n', 's->unspent--;\n        if (s->unspent == 0) s->ended = 1;\n'),
+    ('allowance spent at depth 64', 'if (v == SPLIT && s->depths[top] < MAX_DEPTH) {', 'if (v == SPLIT && s->depths[top] >= MAX_DEPTH && s->unspent > 0) s->unspent--;\n    if (v == SPLIT && s->depths[top] < MAX_DEPTH) {'),
+    ('end at depth 64 and allowance 0', 'if (v == SPLIT && s->depths[top] < MAX_DEPTH) {', 'if (v == SPLIT && (s->depths[top] < MAX_DEPTH || s->unspent == 0)) {'),
+    ('equal boxes: the first', 'box_size(hull[1].box) >= box_size(hull[0].box)', 'box_size(hull[1].box) > box_size(hull[0].box)'),
+    ('the smaller box', 'box_size(hull[1].box) >= box_size(hull[0].box)', 'box_size(hull[1].box) <= box_size(hull[0].box)'),
+    ('lower half first', 'net_of(s, k, next),\n              net_of(s, k, top));', 'net_of(s, k, top),\n              net_of(s, k, next));'),
+    ('ranges changed over', 's->ranges[4 * top + 2 * k] = mid;\n    s->ranges[4 * next + 2 * k + 1] = mid;', 's->ranges[4 * next + 2 * k] = mid;\n    s->ranges[4 * top + 2 * k + 1] = mid;'),
+    ('depth of the lower half only', 's->depths[next] = ++s->depths[top];', 's->depths[next] = s->depths[top] + 1;'),
+    # merging
+    ('from the start', 'Region r = raw[--count];', 'Region r = *raw++;\n        count--;'),
+    ('one pass', '} while (n < before);', '} while (0 && n < before);'),
+    ('touching is open', 'return a->f[0] <= b->f[1] &&', 'return a->f[0] < b->f[1] &&'),
+    ('touching of the first range', '\n        && a->f[2] <= b->f[3] && b->f[2] <= a->f[3]', ''),
+    ('touching of the second range', 'a->f[0] <= b->f[1] && b->f[0] <= a->f[1]\n        && ', ''),
+    ('equal starts turned', 'list[j - 1].f[0] > r.f[0]', 'list[j - 1].f[0] >= r.f[0]'),
+    ('-0 before +0', 'list[j - 1].f[0] > r.f[0]', '(list[j - 1].f[0] > r.f[0] || (list[j - 1].f[0] == r.f[0] && !signbit(list[j - 1].f[0]) && signbit(r.f[0])))'),
+    ('not sorted', '    sort_regions(s->report, n);\n', ''),
+    ('left nodes from the top', 'load_hulls(s, node, hull);\n        s->raw[n++] = region_of(s, node, hull);', 'load_hulls(s, s->waiting - 1 - node, hull);\n        s->raw[n++] = region_of(s, s->waiting - 1 - node, hull);'),
+    ('left before given', 'n = merge(s->raw, n, s->report);', '{ Region t[LENT_REGIONS / 10]; uint64_t w = s->waiting; memcpy(t, s->raw + s->given, w * sizeof *t); memcpy(t + w, s->raw, s->given * sizeof *t); n = merge(t, n, s->report); }'),
+    ('corners of the first', 'r.f[4 + c] = least(hull[0].box[c], hull[1].box[c]);', 'r.f[4 + c] = hull[0].box[c];'),
+    ('corners not united', 'for (int i = 0; i < 10; i++)\n        r.f[i] = high', 'r = *a;\n    for (int i = 0; i < 4; i++)\n        r.f[i] = high'),
+    # printing
+    ('-0 printed', '    if (x == 0.0) bits = 0;\n', ''),
+    ('unseparated before budget', 'if (s->waiting > 0)\n        word = "budget";\n    else if (s->given > 0)\n        word = "unseparated";', 'if (s->given > 0)\n        word = "unseparated";\n    else if (s->waiting > 0)\n        word = "budget";'),
+]
+
+
+def build(text, folder, name):
+    source, program = os.path.join(folder, name + '.c'), os.path.join(folder, name)
+    with open(source, 'w') as f:
+        f.write(text)
+    subprocess.run(['cc', '-O1', '-std=c99', '-ffp-contract=off', '-w', '-o', program, source, '-lm'], check=True)
+    return program
+
+
+def answers(program, data):
+    try:
+        done = subprocess.run([program, '--many'], input=data, stdout=subprocess.PIPE, timeout=60)
+    except subprocess.TimeoutExpired:
+        return None
+    return done.stdout
+
+
+def main(args):
+    if len(args) == 3:
+        picked = [d for _, d in sheets.drawn()] + [d for _, d in sheets.random_sheets(int(args[1]), int(args[2]))]
+        data = b''.join(sheets.packed(d) for d in picked)
+    elif len(args) == 1:
+        with open(os.path.join(args[0], 'sheets.bin'), 'rb') as f:
+            data = f.read()
+    else:
+        sys.exit(__doc__)
+    with open(os.path.join(HERE, 'clearance.c')) as f:
+        text = f.read()
+    unseen = 0
+    with tempfile.TemporaryDirectory() as folder:
+        right = answers(build(text, folder, 'right'), data)
+        for i, (name, old, new) in enumerate(EDITS):
+            if text.count(old) != 1:
+                sys.exit('%s: the text is there %d times' % (name, text.count(old)))
+            if answers(build(text.replace(old, new), folder, 'e%d' % i), data) == right:
+                print('not seen: ' + name)
+                unseen += 1
+    print('%d edits, %d not seen' % (len(EDITS), unseen))
+    return 1 if unseen else 0
+
+
+if __name__ == '__main__':
+    sys.exit(main(sys.argv[1:]))

@@ -1,0 +1,1148 @@
+#!/usr/bin/env python3
+"""Sheets for the clearance search: builders, drawn sheets, random sheets.
+
+  sheets.py --examples DIR          writes the example sheets into DIR
+  sheets.py --list                  names of the drawn sheets with their sizes
+  sheets.py --many SEED N           N random sheets on standard output, each a
+                                    32-bit length and the bytes
+  sheets.py --replay DIR PROGRAM    writes DIR/sheets.bin and, from the answers
+                                    of PROGRAM, DIR/answers.txt
+
+From another script:
+
+  a = line(1, [0, 1], [2, 2], [(0, 0, 0), (2, 2, 0)])
+  b = line(2, [0, 1, 2], [3, 1, 3], poles, weights)
+  data = sheet(a, b, S=256, ranges=[(0, 1), (0, 2)], gap=0.5)
+
+Ranges that are not given are the bounds of the lines.
+"""
+import math
+import os
+import random
+import struct
+import subprocess
+import sys
+
+NAN = math.nan
+INF = math.inf
+BINADE = lambda e: math.ldexp(1.0, e)
+TINY = BINADE(-1074)
+
+# ---- words ------------------------------------------------------------------
+
+
+def head(kind, count):
+    """A word: the kind in the top 4 bits, the count in the other 28."""
+    return struct.pack('<I', (kind & 15) << 28 | (count & 0x0FFFFFFF))
+
+
+def floats(values):
+    return b''.join(struct.pack('<d', v) for v in values)
+
+
+def words(values):
+    return b''.join(struct.pack('<I', v & 0xFFFFFFFF) for v in values)
+
+
+class Line:
+    """A line's description; the fields may hold anything a sheet can hold."""
+
+    def __init__(self, degree, knots, mults, poles, weights=None):
+        self.degree = degree
+        self.knots = list(knots)
+        self.mults = list(mults)
+        self.poles = [tuple(p) for p in poles]
+        self.weights = None if weights is None else list(weights)
+
+    def copy(self):
+        return Line(self.degree, self.knots, self.mults, self.poles, self.weights)
+
+    def flat(self):
+        return [k for k, m in zip(self.knots, self.mults) for _ in range(min(m, 200))]
+
+    def bounds(self):
+        """Flat knots number degree and number poles, where there are such."""
+        flat = self.flat()
+        if len(flat) <= max(self.degree, len(self.poles)):
+            return (0.0, 1.0)
+        return (flat[self.degree], flat[len(self.poles)])
+
+    def data(self):
+        out = [head(1, self.degree), head(2, len(self.knots)), floats(self.knots),
+               head(3, len(self.mults)), words(self.mults), head(4, len(self.poles))]
+        out += [floats(p) for p in self.poles]
+        if self.weights is not None:
+            out += [head(5, len(self.weights)), floats(self.weights)]
+        return b''.join(out)
+
+
+def line(degree, knots, mults, poles, weights=None):
+    return Line(degree, knots, mults, poles, weights)
+
+
+def segment(p, q, lo=0.0, hi=1.0):
+    """The straight line from p to q, degree 1, over the knots lo and hi."""
+    return line(1, [lo, hi], [2, 2], [p, q])
+
+
+def bezier(poles, lo=0.0, hi=1.0, weights=None):
+    """The line of one span with as many poles as its width."""
+    p = len(poles) - 1
+    return line(p, [lo, hi], [p + 1, p + 1], poles, weights)
+
+
+def polyline(points, knots=None):
+    """Degree 1 through the points, one span between two neighbours."""
+    n = len(points)
+    knots = list(range(n)) if knots is None else knots
+    return line(1, knots, [2] + [1] * (n - 2) + [2], points)
+
+
+def clamped(degree, poles, knots=None, weights=None):
+    """A clamped line with inner knots of multiplicity 1."""
+    spans = len(poles) - degree
+    knots = list(range(spans + 1)) if knots is None else knots
+    mults = [degree + 1] + [1] * (spans - 1) + [degree + 1]
+    return line(degree, knots, mults, poles, weights)
+
+
+def question(S, ranges, gap):
+    return head(6, S) + floats([ranges[0][0], ranges[0][1], ranges[1][0], ranges[1][1], gap])
+
+
+def sheet(a, b, S=256, ranges=None, gap=0.0):
+    ranges = [None, None] if ranges is None else ranges
+    ranges = [r if r is not None else l.bounds() for r, l in zip(ranges, (a, b))]
+    return a.data() + b.data() + question(S, ranges, gap) + head(7, 0)
+
+
+def packed(data):
+    """A sheet as the batch format has it: its length, then its bytes."""
+    return struct.pack('<I', len(data)) + data
+
+
+def unpacked(data):
+    """The sheets of a batch."""
+    out, at = [], 0
+    while at < len(data):
+        n = struct.unpack_from('<I', data, at)[0]
+        out.append(data[at + 4:at + 4 + n])
+        at += 4 + n
+    return out
+
+
+# ---- lines and examples of document 01 ---------------------------------------
+
+UNIT = segment((0, 0, 0), (1, 0, 0))
+A = segment((0, 0, 0), (2, 2, 0))
+CROSSING = segment((0, 2, 0), (2, 0, 0))
+PARALLEL = segment((1, 0, 0), (3, 2, 0))
+FAR = segment((10, 0, 0), (12, 2, 0))
+ARCH = line(2, [0, 1, 2], [3, 1, 3], [(0, 0, 0), (0, 2, 0), (2, 2, 0), (2, 0, 0)])
+NAN_NET = segment((0, 0, 0), (1, 0, 0), 0.0, BINADE(-1072))
+
+EXAMPLE_ANSWER = (
+    'unseparated pairs=1 visits=1 splits=0 settled=0 given=1 left=0 regions=1\n'
+    'region 0000000000000000 3FF0000000000000 0000000000000000 3FF0000000000000'
+    ' 0000000000000000 0000000000000000 0000000000000000 3FF0000000000000'
+    ' 0000000000000000 0000000000000000\n')
+
+
+def example():
+    """The sheet whose answer document 01 prints."""
+    return sheet(UNIT, UNIT, S=0)
+
+
+def track():
+    """A planned track of some 400 m at 12 to 14 m depth that passes the head of
+    an outfall; gap 5 m. Metres; z is up."""
+    poles = [(5.0, 12.0, -12.0), (41.5, 18.25, -12.0), (78.0, 21.5, -12.5),
+             (112.75, 14.0, -13.0), (149.0, 3.5, -13.25), (185.5, -2.25, -13.5),
+             (221.0, 1.75, -13.75), (258.25, 10.5, -14.0), (296.0, 16.0, -14.0),
+             (333.5, 13.25, -13.5), (369.75, 6.0, -13.0), (403.0, 2.5, -12.75)]
+    plan = clamped(3, poles)
+    outfall = clamped(2, [(214.0, 88.0, -9.5), (216.5, 60.0, -11.0), (219.0, 38.0, -12.5),
+                          (221.0, 19.0, -13.5), (222.5, 6.5, -14.25)])
+    return sheet(plan, outfall, S=64, gap=5.0)
+
+
+EXAMPLES = [('example', example),
+            ('crossing', lambda: sheet(A, CROSSING, S=256, gap=0.0)),
+            ('track', track)]
+
+
+# ---- drawn sheets -------------------------------------------------------------
+
+
+def checks():
+    """The lines drawn for checking, and each of them with the lines changed over."""
+    yield 'example', example()
+    for s in (0, 1, 2, 3, 255, 256):
+        yield 'crossing-S%d' % s, sheet(A, CROSSING, S=s)
+        yield 'crossing-back-S%d' % s, sheet(CROSSING, A, S=s)
+    for gap in (0.0, 0.5, 0.7071067811865475, 0.7071067811865476, 0.75, 1.0, 2.0):
+        yield 'parallel-gap%r' % gap, sheet(A, PARALLEL, gap=gap)
+        yield 'parallel-back-gap%r' % gap, sheet(PARALLEL, A, gap=gap)
+    yield 'far', sheet(A, FAR)
+    yield 'far-gap8', sheet(A, FAR, gap=8.0)
+    yield 'far-gap-below-8', sheet(A, FAR, gap=7.999999999999999)
+    yield 'arch-itself', sheet(ARCH, ARCH, S=8)
+    yield 'arch-unit', sheet(ARCH, UNIT, S=64)
+    yield 'arch-inner', sheet(ARCH, A, S=16, ranges=[(0.25, 1.75), (0.125, 0.5)])
+    yield 'nan-net', sheet(NAN_NET, UNIT, S=4)
+    yield 'nan-net-far', sheet(segment((9e6, 0, 0), (9e6, 1, 0)), NAN_NET, S=4)
+    yield 'nan-net-both', sheet(NAN_NET, NAN_NET, S=4)
+    for degree in (1, 2, 7, 8, 24, 25, 26):
+        poles = [(i, i * i % 7, i % 3) for i in range(degree + 1)]
+        yield 'degree%d' % degree, sheet(bezier(poles), A, S=3)
+        yield 'degree%d-second' % degree, sheet(UNIT, bezier(poles), S=3)
+    # depth 64: an isolated tangent contact with a wide allowance
+    tangent = bezier([(0, 1, 0), (2, -1, 0), (4, 1, 0)])
+    yield 'tangent', sheet(tangent, segment((0, 0, 0), (4, 0, 0)))
+    yield 'tangent-uneven', sheet(tangent, segment((0.1, 0, 0), (3.7, 0, 0)))
+
+
+def point_contacts():
+    """Lines with points that coincide: depth 64 is reached."""
+    loop = bezier([(0, 0, 0), (0, 0, 0), (1, 0, 0), (0, 1, 0)])
+    yield 'loop-itself', sheet(loop, loop)
+    for n in (2, 3, 5):
+        still = bezier([(1, 1, 1)] * n)
+        yield 'point-point-%d' % n, sheet(still, still)
+        yield 'point-line-%d' % n, sheet(still, segment((1, 1, 1), (2, 2, 2)))
+        yield 'point-line-back-%d' % n, sheet(segment((0, 0, 0), (2, 2, 2)), still)
+        yield 'point-loose-%d' % n, sheet(still, segment((0, 0, 0.5), (2, 2, 2)), gap=0.1)
+    yield 'point-underflow', sheet(segment((0, 0, 0), (BINADE(-600), 0, 0)),
+                                   segment((0, 0, 0), (0, BINADE(-600), 0)))
+    yield 'point-depth', sheet(bezier([(0, 0, 0), (1, 1, 0), (0, 0, 0)]), bezier([(0, 0, 0)] * 3))
+    there_and_back = bezier([(0, 0, 0), (1, 0, 0), (0, 0, 0)])
+    yield 'there-and-back', sheet(there_and_back, there_and_back)
+    yield 'there-and-back-point', sheet(there_and_back, bezier([(0.25, 0, 0)] * 2))
+
+
+def word_faults():
+    """Numbers 1 to 3, word by word."""
+    good = example()
+    a, q, end = UNIT.data(), question(0, [(0, 1), (0, 1)], 0.0), head(7, 0)
+    for n in (0, 1, 2, 3, 4, 5, 16380, 16384, 16385, 16388, 20000):
+        yield 'length-%d' % n, (good + bytes(20000))[:n]
+    for n in (16384, 16385, 16388):
+        yield 'length-zero-%d' % n, bytes(n)
+    yield 'length-odd', good + b'\0'
+    for at in range(0, len(good), 4):
+        yield 'cut-%d' % at, good[:at]
+    yield 'words-after-end', good + words([0])
+    yield 'words-after-end-7', good + head(7, 0)
+    yield 'end-count-1', a + a + q + head(7, 1)
+    yield 'end-count-1-and-words', a + a + q + head(7, 1) + words([5])
+    yield 'end-missing', a + a + q
+    yield 'end-kind-8', a + a + q + head(8, 0)
+    yield 'question-missing', a + a + end
+    yield 'second-missing', a + q + end
+    yield 'second-stops', a
+    yield 'weights-0', a + head(5, 0) + a + q + end
+    yield 'weights-0-second', a + a + head(5, 0) + q + end
+    yield 'weights-0-last-word', a + head(5, 0)
+    yield 'weights-twice', a + head(5, 2) + floats([1, 1]) + head(5, 2) + floats([1, 1]) + a + q + end
+    yield 'weights-huge', a + head(5, 0x0FFFFFFF) + a + q + end
+    for kind in range(16):
+        yield 'first-kind-%d' % kind, head(kind, 1) + good[4:]
+        yield 'second-kind-%d' % kind, a + head(kind, 1) + a[4:] + q + end
+        yield 'knots-kind-%d' % kind, a[:4] + head(kind, 2) + good[8:]
+        yield 'question-kind-%d' % kind, a + a + head(kind, 0) + q[4:] + end
+    huge = 0x0FFFFFFF
+    for n in (huge, 0x08000000, 0x0AAAAAAA, 0x0AAAAAAB, 0x05555556, 0x02AAAAAB, 4096, 4095, 1365):
+        yield 'knots-count-%x' % n, head(1, 1) + head(2, n) + good[8:]
+        yield 'mults-count-%x' % n, a[:24] + head(3, n) + good[28:]
+        yield 'poles-count-%x' % n, a[:36] + head(4, n) + good[40:]
+    yield 'S-huge', a + a + head(6, huge) + q[4:] + end
+    yield 'degree-huge', head(1, huge) + good[4:]
+
+
+def empty_parts():
+    """Counts of 0, and counts that do not go together."""
+    q, end = question(0, [(0, 1), (0, 1)], 0.0), head(7, 0)
+    u = UNIT.data()
+    empty = {
+        'knots': line(1, [], [2, 2], UNIT.poles), 'mults': line(1, [0, 1], [], UNIT.poles),
+        'poles': line(1, [0, 1], [2, 2], []), 'all': line(1, [], [], []),
+        'sum-2': line(1, [0, 1], [1, 1], []), 'sum-below': line(3, [0, 1], [1, 1], []),
+        'sum-below-poles': line(3, [0, 1], [1, 1], UNIT.poles),
+        'one-pole': line(3, [0, 1], [4, 1], [(1, 2, 3)]),
+        'one-pole-1': line(1, [0, 1], [2, 1], [(1, 2, 3)]),
+        'no-length': line(2, [0, 1, 2], [2, 2, 2], [(0, 0, 0), (1, 1, 0), (2, 0, 0)]),
+    }
+    for name, l in empty.items():
+        yield 'empty-%s' % name, l.data() + u + q + end
+        yield 'empty-%s-second' % name, u + l.data() + q + end
+    flat = empty['no-length']
+    for r in ((1, 1), (0, 2), (1, 2), (0.5, 1), (0.5, 1.5)):
+        yield 'no-length-%g-%g' % r, sheet(flat, UNIT, ranges=[r, None])
+        yield 'no-length-second-%g-%g' % r, sheet(UNIT, flat, ranges=[None, r])
+
+
+def after(x):
+    """The double above x > 0."""
+    return struct.unpack('<d', struct.pack('<q', struct.unpack('<q', struct.pack('<d', x))[0] + 1))[0]
+
+
+def below(x):
+    """The double below x > 0."""
+    return struct.unpack('<d', struct.pack('<q', struct.unpack('<q', struct.pack('<d', x))[0] - 1))[0]
+
+
+BAD_FLOATS = [NAN, -NAN, INF, -INF]
+
+
+def spoilt(number, rng):
+    """A line refused with the number 4 to 14, and perhaps with later ones."""
+    l = line(2, [0.0, 1.0, 2.0, 3.0], [3, 1, 2, 3], [(i, i * i, 1) for i in range(6)])
+    k = rng.below(4)
+    if number == 4:
+        l.degree = rng.pick([0, 26, 27, 1000, 0x0FFFFFFF])
+    elif number == 5:
+        way = rng.below(4)
+        if way == 0:
+            l.knots, l.mults = l.knots[:1], l.mults[:1]
+        elif way == 1:
+            l.knots = [float(i) for i in range(129)]
+            l.mults = [1] * 129
+        elif way == 2:
+            l.mults = l.mults + [1]
+        else:
+            l.mults = l.mults[:-1]
+    elif number == 6:
+        l.knots[k] = rng.pick(BAD_FLOATS + [after(BINADE(20)), -after(BINADE(20)), 1e300])
+    elif number == 7:
+        k = 1 + rng.below(3)
+        l.knots[k] = rng.pick([l.knots[k - 1], l.knots[k - 1] - 1.0, -5.0])
+        if rng.below(4) == 0:
+            l.knots[:2] = [0.0, -0.0]
+    elif number == 8:
+        l.mults[k] = rng.pick([4, 5, 0xFFFFFFFF, 0x80000000])
+        if rng.below(3) == 0:
+            l.mults[1] = 3
+    elif number == 9:
+        l.mults[k] = 0
+        if rng.below(2):
+            l.poles = l.poles[:max(0, sum(l.mults) - 3)]
+    elif number == 10:
+        l.poles = rng.pick([l.poles[:5], l.poles + [(7, 7, 7)], [], l.poles * 3])
+    elif number == 11:
+        if rng.below(2):
+            l = line(3, [0, 1, 2], [1, 2, rng.pick([2, 4])], [])
+            l.poles = [(1.0, 2.0, 3.0)] * (sum(l.mults) - 4)
+        else:
+            n = 44
+            l = line(3, list(range(n)), [4] + [3] * (n - 2) + [4], [(i, 0, 0) for i in range(3 * n - 2)])
+    elif number == 12:
+        l.weights = [1.0] * rng.pick([1, 5, 7, 12])
+    elif number == 13:
+        l.weights = [1.0] * 6
+        l.weights[rng.below(6)] = rng.pick(BAD_FLOATS + [
+            0.0, -0.0, -1.0, below(BINADE(-10)), after(BINADE(10)), TINY, -BINADE(-10)])
+    elif number == 14:
+        i, c = rng.below(6), rng.below(3)
+        p = list(l.poles[i])
+        p[c] = rng.pick(BAD_FLOATS + [after(BINADE(24)), -after(BINADE(24)), 1e300])
+        l.poles[i] = tuple(p)
+    return l
+
+
+def spoil_into(l, number, rng):
+    """Adds a fault of the number to the line l where the fields allow it."""
+    k = rng.below(max(1, len(l.knots)))
+    if number == 4:
+        l.degree = rng.pick([0, 26])
+    elif number == 5:
+        l.mults = l.mults + [1]
+    elif number == 6 and l.knots:
+        l.knots[-1] = rng.pick([NAN, INF, -INF, 2e6])
+    elif number == 7 and len(l.knots) > 1:
+        l.knots[1] = l.knots[0] - 1.0
+    elif number == 8 and l.mults:
+        l.mults[k % len(l.mults)] = 99
+    elif number == 9 and l.mults:
+        l.mults[k % len(l.mults)] = 0
+    elif number == 10:
+        l.poles = l.poles + [(0, 0, 0)]
+    elif number == 12:
+        l.weights = [1.0] * (len(l.poles) + 1)
+    elif number == 13:
+        l.weights = [1.0] * max(1, len(l.poles))
+        l.weights[-1] = rng.pick([0.0, NAN, 1025.0])
+    elif number == 14 and l.poles:
+        l.poles[0] = (rng.pick([NAN, 2e7, -INF]), 0.0, 0.0)
+
+
+def line_faults():
+    """Numbers 4 to 14 on either line, alone and together."""
+    rng = Rng(401)
+    for number in range(4, 15):
+        for i in range(6):
+            l = spoilt(number, rng)
+            yield 'no%d-%d-first' % (number, i), sheet(l, A, S=2, ranges=[(0, 1), None])
+            yield 'no%d-%d-second' % (number, i), sheet(A, l, S=2, ranges=[None, (0, 1)])
+    for one in range(4, 15):
+        for two in range(4, 15):
+            a, b = spoilt(one, rng), spoilt(two, rng)
+            yield 'no%d-with-no%d' % (one, two), sheet(a, b, ranges=[(0, 1), (0, 1)])
+            both = spoilt(one, rng)
+            spoil_into(both, two, rng)
+            yield 'no%d-and-no%d' % (one, two), sheet(both, A, ranges=[(0, 1), None])
+    for name, mults in (('inner-over', [3, 3, 3]), ('inner-full', [3, 2, 3]),
+                        ('first-over', [4, 1, 3]), ('last-over', [3, 1, 4])):
+        l = line(2, [0, 1, 2], mults, [(i, i % 2, 0) for i in range(sum(mults) - 3)])
+        yield 'mults-%s-first' % name, sheet(l, A, S=20)
+        yield 'mults-%s-second' % name, sheet(A, l, S=20)
+    yield 'knots-at-limit', sheet(segment((0, 0, 0), (1, 0, 0), -BINADE(20), BINADE(20)), A)
+    yield 'weights-at-limit', sheet(bezier([(0, 0, 0), (1, 1, 0)], weights=[BINADE(-10), BINADE(10)]), A)
+    far = BINADE(24)
+    yield 'coordinates-at-limit', sheet(segment((-far, -far, -far), (far, far, far)), A)
+    yield 'coordinates-at-limit-gap', sheet(segment((-far, far, -far), (far, far, far)),
+                                            segment((-far, -far, far), (far, -far, -far)), gap=far)
+    n = 128
+    yield 'knots-128', sheet(polyline([(i, 0, 0) for i in range(n)]), segment((3.5, -1, 0), (3.5, 1, 0)), S=20)
+    yield 'knots-129', sheet(polyline([(i, 0, 0) for i in range(n + 1)]), A)
+    yield 'poles-128', sheet(clamped(3, [(i, 0, 0) for i in range(128)]), segment((50.5, -9, 3), (50.5, 9, 3)))
+    yield 'poles-129', sheet(clamped(3, [(i, 0, 0) for i in range(129)]), A)
+
+
+def question_faults():
+    """Numbers 15 to 18, alone and together."""
+    bad = [(NAN, 1), (0, NAN), (-INF, 1), (0, INF), (0.5, 0.5), (1, 0), (-TINY, 1), (0, after(1.0)),
+           (-1, 2), (0.0, -0.0), (-0.0, 0.0)]
+    for i, r in enumerate(bad):
+        yield 'no15-%d-first' % i, sheet(A, CROSSING, ranges=[r, (0, 1)])
+        yield 'no15-%d-second' % i, sheet(A, CROSSING, ranges=[(0, 1), r])
+        yield 'no15-%d-gap' % i, sheet(A, CROSSING, ranges=[(0, 1), r], gap=NAN)
+    yield 'no15-both', sheet(A, A, ranges=[(1, 0), (NAN, 0)])
+    for i, g in enumerate(BAD_FLOATS + [-TINY, -1.0, after(BINADE(24)), 1e308]):
+        yield 'no16-%d' % i, sheet(A, CROSSING, gap=g)
+        yield 'no16-%d-S' % i, sheet(A, CROSSING, gap=g, S=257)
+    for s in (257, 258, 1000, 0x0FFFFFFF):
+        yield 'no17-%d' % s, sheet(A, CROSSING, S=s)
+        yield 'no17-%d-breaks' % s, sheet(A, CROSSING, S=s, ranges=[(0, TINY), (0, 1)])
+    narrow = [(0.0, TINY), (0.5, after(0.5)), (below(1.0), 1.0), (TINY, 2 * TINY)]
+    for i, r in enumerate(narrow):
+        yield 'no18-%d-first' % i, sheet(A, CROSSING, ranges=[r, (0, 1)])
+        yield 'no18-%d-second' % i, sheet(A, CROSSING, ranges=[(0, 1), r])
+        yield 'no18-%d-then-15' % i, sheet(A, CROSSING, ranges=[r, (1, 0)])
+        yield 'no18-%d-then-16' % i, sheet(A, CROSSING, ranges=[r, (0, 1)], gap=-1.0)
+    near = line(1, [0.0, 1.0, after(1.0), 2.0], [2, 1, 1, 2], [(0, 0, 0), (1, 0, 0), (2, 0, 0), (3, 0, 0)])
+    yield 'no18-knots', sheet(near, A)
+    yield 'no18-knots-second', sheet(A, near)
+    yield 'near-knots-outside', sheet(near, A, ranges=[(0.25, 1.0), None])
+    yield 'near-knots-from', sheet(near, A, ranges=[(after(1.0), 2.0), None])
+    for i, r in enumerate([(0.0, 2 * TINY), (0.0, 3 * TINY), (TINY, 3 * TINY),
+                           (0.5, after(after(0.5))), (below(below(1.0)), 1.0), (-0.0, 1.0)]):
+        yield 'narrow-%d' % i, sheet(A, CROSSING, ranges=[r, (0, 1)], S=40)
+        yield 'narrow-%d-second' % i, sheet(A, CROSSING, ranges=[(0, 1), r], S=40)
+    yield 'gap-negative-zero', sheet(A, CROSSING, S=3, gap=-0.0)
+    yield 'gap-at-limit', sheet(A, CROSSING, gap=BINADE(24))
+    yield 'gap-tiny', sheet(A, A, gap=TINY)
+
+
+def comb(n, height=1.0, step=1.0):
+    """A zigzag of n spans along x."""
+    return polyline([(i * step, height * (i % 2), 0.0) for i in range(n + 1)])
+
+
+def memory_faults():
+    """Number 19, and sheets that just pass it."""
+    for p in (11, 12, 13):
+        for s in sorted({819 // p - 2, 819 // p - 1, 819 // p, 62, 63, 67, 68, 256} - {-1}):
+            if 0 <= s <= 256:
+                a = comb(p)
+                b = segment((-0.5, 0.5, 0.0), (p + 0.5, 0.5, 0.0))
+                yield 'pairs-%d-S-%d' % (p, s), sheet(a, b, S=s)
+    for p, s in ((1, 256), (2, 256), (3, 255), (3, 256), (4, 203), (4, 204), (7, 116), (9, 90), (9, 91)):
+        yield 'regions-%d-%d' % (p, s), sheet(comb(p), segment((-1, 0.25, 0), (p + 1, 0.75, 0)), S=s)
+    for pieces in (113, 126, 127):
+        knots = list(range(pieces + 1))
+        flat = line(15, knots, [16] + [1] * (pieces - 1) + [16], [(i, 0, 0) for i in range(pieces + 15)])
+        yield 'pieces-%d-degree-15' % pieces, sheet(flat, segment((0, 5, 0), (200, 5, 0)))
+        yield 'pieces-%d-degree-15-second' % pieces, sheet(segment((0, 5, 0), (200, 5, 0)), flat)
+    knots = list(range(-15, 128))[:128]
+    even = line(15, knots, [1] * 128, [(i * 0.25, 0, 0) for i in range(112)])
+    yield 'unclamped-97-degree-15', sheet(even, segment((0, 5, 0), (30, 5, 0)))
+    for degree, pieces in ((25, 78), (25, 79), (25, 103), (18, 106), (18, 107), (17, 111), (17, 112)):
+        if pieces + degree <= 128:
+            l = clamped(degree, [(i, 0, 0) for i in range(pieces + degree)])
+            yield 'pieces-%d-degree-%d' % (pieces, degree), sheet(l, segment((0, 5, 0), (9, 5, 0)))
+            yield 'pieces-%d-degree-%d-second' % (pieces, degree), sheet(segment((0, 5, 0), (9, 5, 0)), l)
+            part = [(l.knots[1] + 0.5, float(l.knots[-2])), None]
+            yield 'pieces-%d-degree-%d-inner' % (pieces, degree), sheet(l, segment((0, 5, 0), (9, 5, 0)), ranges=part)
+    long = polyline([(i, 0, 0) for i in range(128)])
+    yield 'pairs-16129', sheet(long, long, S=256, gap=1000.0)
+    yield 'pairs-16129-S0', sheet(long, long, S=0, gap=1000.0)
+    yield 'pairs-0', sheet(long, segment((0, 9, 0), (9, 9, 0)), S=256)
+
+
+def merging():
+    """Regions that join in several passes, equal first starts, either zero."""
+    for n in (3, 4, 6):
+        star = polyline([(math.cos(t), math.sin(t), 0.0) for t in
+                         [4 * math.pi * i / (2 * n + 1) for i in range(n + 1)]])
+        yield 'star-%d' % n, sheet(star, star, S=819 // ((n * n + n) or 1))
+    for n in (2, 3, 4, 6):
+        b = segment((-1, 0.5, 0), (n + 1, 0.5, 0))
+        for s in (0, 5, 20, 60):
+            yield 'comb-%d-%d' % (n, s), sheet(comb(n), b, S=s)
+            yield 'comb-back-%d-%d' % (n, s), sheet(b, comb(n), S=s)
+    # pairs (0,1), (1,2) and (2,0): the last two do not touch; the first joins
+    # the second, and both together reach the third in another pass
+    f = [(0, 0, 0), (10, 0, 0), (10, 10, 0), (-5, 10, 0)]
+    g = [(-3, 12, 0), (-1, -1, 0), (2, 1, 0), (12, 6, 0)]
+    for s in (0, 1, 2, 40):
+        yield 'two-passes-S%d' % s, sheet(polyline(f), polyline(g), S=s)
+        yield 'two-passes-turned-S%d' % s, sheet(polyline(f[::-1]), polyline(g[::-1]), S=s)
+        yield 'two-passes-back-S%d' % s, sheet(polyline(g), polyline(f), S=s)
+    same = [segment((0, 0, 0), (2, 0, 0)), polyline([(0, 0, 0), (1, 0, 0), (2, 0, 0)]),
+            polyline([(0, 0, 0), (0.5, 0, 0), (1.5, 0, 0), (2, 0, 0)])]
+    for i, a in enumerate(same):
+        for j, b in enumerate(same):
+            yield 'overlap-%d-%d' % (i, j), sheet(a, b, S=10)
+    # one first piece that meets several second ones: equal first starts
+    bar = segment((0, 0, 0), (0, 0, 1))
+    gate = polyline([(0, 0, 0), (0, 0, 1), (5, 0, 1), (5, 0, 0), (0, 0, 0), (0, 0, 1)])
+    yield 'equal-starts', sheet(bar, gate, S=20)
+    yield 'equal-starts-back', sheet(gate, bar, S=20)
+    through = polyline([(0, 0, 0), (1, 0, 0), (1, 1, 0), (0, 1, 0), (0, 0, 0), (1, 0, 0), (1, 1, 0)])
+    yield 'twice-round', sheet(through, through, S=10)
+    yield 'twice-round-unit', sheet(UNIT, through, S=50)
+    yield 'twice-round-unit-back', sheet(through, UNIT, S=50)
+    shifted = polyline([(-2, 0, 0), (-1, 0, 0), (-0.0, 0, 0), (1, 0, 0)], [-2.0, -1.0, -0.0, 1.0])
+    plain = polyline([(-2, 0, 0), (-1, 0, 0), (0, 0, 0), (1, 0, 0)], [-2.0, -1.0, 0.0, 1.0])
+    for i, a in enumerate((shifted, plain)):
+        for j, b in enumerate((shifted, plain)):
+            yield 'zeros-%d-%d' % (i, j), sheet(a, b, S=30)
+            yield 'zeros-inner-%d-%d' % (i, j), sheet(a, b, S=30, ranges=[(-0.0, 1.0), (-1.0, 0.0)])
+            yield 'zeros-out-%d-%d' % (i, j), sheet(a, gate, S=12, ranges=[(-0.0, 0.5), None])
+    minus = segment((-0.0, -0.0, -0.0), (2.0, -0.0, 0.0))
+    yield 'minus-zero-poles', sheet(minus, segment((0.0, -1.0, -0.0), (-0.0, 1.0, 0.0)), S=30)
+    yield 'minus-zero-poles-itself', sheet(minus, minus, S=30)
+    # merging works on ranges alone: pieces that are listed apart in space
+    zig = polyline([(0, 0, 0), (4, 0, 0), (4, 1, 0), (0, 1, 0), (0, 2, 0), (4, 2, 0)])
+    for g in (0.0, 0.25, 1.0):
+        yield 'zig-gap%g' % g, sheet(zig, segment((2, -1, 0), (2, 3, 0)), S=60, gap=g)
+        yield 'zig-back-gap%g' % g, sheet(segment((2, -1, 0), (2, 3, 0)), zig, S=60, gap=g)
+
+
+def zero_starts():
+    """Two regions whose first starts are -0 and +0: halving -2^-1074 to 0 has
+    the middle -0. The first line is a parabola of length 2^-50; the second has
+    one end at the middle of its parameters and one just below it."""
+    x, y, h = BINADE(-50), BINADE(-118), BINADE(-22)
+    first = bezier([(0, 0, 0), (BINADE(20), 0, 0), (BINADE(21), BINADE(24), 0)], -4 * TINY, BINADE(-1000))
+    at = lambda s, z: (x * s, y * s * s, z)
+    low, high = 7 / 16 + BINADE(-20), 8 / 16 + BINADE(-20)
+    for name, (s, t) in (('zero-starts', (high, low)), ('zero-starts-back', (low, high))):
+        second = polyline([at(s, 0.0), at(s, h), at(t, h), at(t, 0.0)])
+        yield name, sheet(first, second, S=200, ranges=[(-4 * TINY, 4 * TINY), None])
+
+
+def tiny_coordinates():
+    """Coordinates of a few times 2^-1074: all products underflow."""
+    t = TINY
+    ends = [((t, 0, 0), (5 * t, 0, 0)), ((3 * t, 0, 0), (7 * t, 0, 0)), ((0, t, 0), (5 * t, 6 * t, 0))]
+    for i, (p, q) in enumerate(ends):
+        still = segment((2 * t, 0, 0), (2 * t, 0, 0))
+        yield 'tiny-%d' % i, sheet(still, segment(p, q), S=100)
+        yield 'tiny-%d-back' % i, sheet(segment(p, q), still, S=100)
+        yield 'tiny-%d-gap' % i, sheet(still, segment(p, q), S=100, gap=t)
+
+
+def measures():
+    """Nets that are out of measure, or near it."""
+    for e in range(-1074, -1015, 4):
+        tiny = segment((0, 0, 0), (1, 0, 0), 0.0, BINADE(e))
+        yield 'span-2^%d' % e, sheet(tiny, UNIT, S=4)
+        yield 'span-2^%d-second' % e, sheet(FAR, tiny, S=4)
+    for e in (-1022, -1023, -1024, -1030, -1060, -1070, -1072, -1073):
+        h = BINADE(e)
+        l = line(2, [0.0, h, 1.0], [3, 1, 3], [(0, 0, 0), (1, 1, 0), (2, 0, 0), (3, 1, 0)])
+        yield 'first-span-2^%d' % e, sheet(l, UNIT, S=4)
+        yield 'first-span-2^%d-from' % e, sheet(l, UNIT, S=4, ranges=[(h, 1.0), None])
+        yield 'first-span-2^%d-far' % e, sheet(segment((500, 0, 0), (600, 0, 0)), l, S=4)
+        m = line(3, [0.0, h, 1.0, 2.0], [2, 1, 2, 3], [(i, i % 2, 0) for i in range(4)])
+        yield 'mixed-2^%d' % e, sheet(m, UNIT, S=4)
+    w = bezier([(1e7, 1e7, 0), (-1e7, 1e7, 0), (1e7, -1e7, 3)], weights=[BINADE(-10), BINADE(10), BINADE(-10)])
+    yield 'weights-wide', sheet(w, w, S=20)
+    # f0 rounds to 1: the upper cut is left out
+    yield 'f0-is-1', sheet(segment((0, 0, 0), (1, 0, 0), -BINADE(20), BINADE(-1060)), UNIT,
+                           ranges=[(0.0, BINADE(-1060)), None], S=4)
+    yield 'f0-is-1-degree-3', sheet(bezier([(0, 0, 0), (1, 0, 0), (1, 2, 0), (3, 3, 1)], -1.0, BINADE(-70)), UNIT,
+                                    ranges=[(0.0, BINADE(-70)), None], S=4)
+    yield 'f0-near-1', sheet(bezier([(0, 0, 0), (1, 0, 0), (1, 2, 0), (3, 3, 1)], -1.0, BINADE(-52)), UNIT,
+                             ranges=[(0.0, BINADE(-52)), None], S=4)
+    far = BINADE(24)
+    cut = bezier([(far, -far, far), (below(far), -far, below(far)), (far, -below(far), far)])
+    for i, r in enumerate([(0.1, 0.9), (1 / 3, 2 / 3), (0.7, 1.0), (0.0, 0.3)]):
+        yield 'cut-at-limit-%d' % i, sheet(cut, cut, ranges=[r, r], S=10)
+
+
+def pairs_of_lines():
+    """Crossing, parallel, overlapping, touching, tangent and near lines."""
+    base = segment((0, 0, 0), (4, 0, 0))
+    others = {
+        'cross': ((2, -1, 0), (2, 1, 0)), 'cross-third': ((4 / 3, -1, 0), (1.5, 1, 0)),
+        'touch-end': ((4, 0, 0), (5, 3, 0)), 'touch-inside': ((1, 0, 0), (1, 3, 1)),
+        'touch-start': ((0, 0, 0), (0, 0, 1)), 'parallel': ((0, 1, 0), (4, 1, 0)),
+        'parallel-shifted': ((1, 0.5, 0), (7, 0.5, 0)), 'overlap': ((1, 0, 0), (6, 0, 0)),
+        'inside': ((1, 0, 0), (2, 0, 0)), 'turned': ((4, 0, 0), (0, 0, 0)),
+        'in-line': ((5, 0, 0), (7, 0, 0)), 'in-line-touching': ((4, 0, 0), (7, 0, 0)),
+        'skew': ((2, -1, 0.5), (2, 1, 0.5)), 'near': ((0, 1e-9, 0), (4, 1e-9, 0)),
+        'nearly-parallel': ((0, -1e-12, 0), (4, 1e-12, 0)), 'still': ((2, 0, 0), (2, 0, 0)),
+    }
+    for name, (p, q) in others.items():
+        for gap in (0.0, 1e-9, 0.5, 1.0, 3.0):
+            yield 'lines-%s-gap%g' % (name, gap), sheet(base, segment(p, q), S=60, gap=gap)
+        yield 'lines-%s-back' % name, sheet(segment(p, q), base, S=60, gap=0.5)
+    arc = bezier([(1, 0, 0), (1, 1, 0), (0, 1, 0)], weights=[1, math.sqrt(0.5), 1])
+    arc2 = bezier([(2, 0, 0), (2, 2, 0), (0, 2, 0)], weights=[1, math.sqrt(0.5), 1])
+    for gap in (0.0, 0.5, 0.999, 1.0, 1.001):
+        yield 'arcs-gap%g' % gap, sheet(arc, arc2, S=100, gap=gap)
+        yield 'arcs-itself-gap%g' % gap, sheet(arc, arc, S=100, gap=gap)
+    tangent = segment((1, -1, 0), (1, 1, 0))
+    for gap in (0.0, 1e-6, 0.01):
+        yield 'arc-tangent-gap%g' % gap, sheet(arc, tangent, gap=gap)
+        yield 'arc-tangent-back-gap%g' % gap, sheet(tangent, arc, gap=gap)
+    cubic = bezier([(0, 0, 0), (1, 3, 0), (2, -3, 0), (3, 0, 0)])
+    yield 'cubic-three-meetings', sheet(cubic, segment((0, -0.1, 0), (3, 0.1, 0)))
+    yield 'cubics', sheet(cubic, bezier([(0, 0.5, 0), (1, -3, 1), (2, 3, -1), (3, 0, 0)]))
+
+
+PICKED = [('edge', [17, 33, 51, 56, 135, 273]),
+          ('limit', [107, 675, 1676, 1774, 2067, 3547, 3603, 3652, 3894]),
+          ('lines', [21, 342, 1162, 1280, 1371, 1497, 1682, 3383]),
+          ('small_pieces', [336, 748, 892, 2222, 2828])]
+
+
+def picked():
+    """Sheets of the random kinds whose answers hang on a single rounding, an
+    equality or the order of two tests."""
+    for kind, seeds in PICKED:
+        for seed in seeds:
+            yield 'picked-%s-%d' % (kind, seed), globals()['kind_' + kind](Rng(seed))
+
+
+def drawn():
+    """All drawn sheets: (name, bytes)."""
+    for part in (checks, point_contacts, word_faults, empty_parts, line_faults, question_faults,
+                 memory_faults, merging, zero_starts, tiny_coordinates, measures, pairs_of_lines,
+                 picked):
+        yield from part()
+    for name, make in EXAMPLES:
+        yield 'example-' + name, make()
+
+
+# ---- random sheets --------------------------------------------------------------
+
+
+class Rng:
+    """Random numbers that are the same on every Python 3."""
+
+    def __init__(self, seed):
+        self.source = random.Random(seed)
+
+    def unit(self):
+        return self.source.random()
+
+    def below(self, n):
+        return int(self.source.random() * n)
+
+    def pick(self, items):
+        return items[self.below(len(items))]
+
+    def between(self, lo, hi):
+        return lo + (hi - lo) * self.unit()
+
+    def chance(self, p):
+        return self.unit() < p
+
+    def bits(self):
+        """A float of any bits."""
+        raw = self.below(1 << 32) << 32 | self.below(1 << 32)
+        return struct.unpack('<d', struct.pack('<Q', raw))[0]
+
+
+def random_coordinate(rng, style):
+    if style == 'grid':
+        return float(rng.below(5) - 2)
+    if style == 'fine':
+        return (rng.below(65) - 32) / 16.0
+    if style == 'metres':
+        return rng.between(-200.0, 200.0)
+    if style == 'huge':
+        return rng.between(-1.0, 1.0) * BINADE(24)
+    if style == 'tiny':
+        return (rng.below(17) - 8) * TINY
+    if style == 'small':
+        return rng.between(-1.0, 1.0) * BINADE(-rng.below(1080))
+    return rng.between(-2.0, 2.0)
+
+
+STYLES = ['grid', 'grid', 'fine', 'metres', 'unit', 'unit', 'huge', 'small', 'tiny']
+
+
+def random_degree(rng):
+    return rng.pick([1, 1, 1, 2, 2, 3, 3, 4, 5, 6, 7, 8, 9, 12, 25, 1 + rng.below(25)])
+
+
+def random_knots(rng, n):
+    """n rising knots in one of several manners."""
+    way = rng.below(8)
+    if way == 0:
+        return [float(i) for i in range(n)]
+    if way == 1:
+        return [i / (n - 1) for i in range(n)]
+    if way == 2:
+        lo = rng.between(-5.0, 5.0)
+        out = [lo]
+        for _ in range(n - 1):
+            out.append(out[-1] + rng.between(0.05, 2.0))
+        return out
+    if way == 3:
+        return [float(i - n // 2) if i != n // 2 else rng.pick([0.0, -0.0]) for i in range(n)]
+    if way == 4:
+        at = rng.below(n)
+        out = [float(i) for i in range(n)]
+        if at > 0:
+            out[at] = out[at - 1] + BINADE(-rng.below(53)) if out[at - 1] != 0 else BINADE(-rng.below(1075))
+        return sorted(set(out)) if len(set(out)) == n else [float(i) for i in range(n)]
+    if way == 5:
+        scale = rng.pick([1e-3, 1e-9, 1e3, BINADE(-300), BINADE(-1000), BINADE(-1060), BINADE(12)])
+        return [i * scale for i in range(n)]
+    if way == 6:
+        return [-BINADE(20)] + [float(i) for i in range(n - 2)] + [BINADE(20)]
+    return [math.ldexp(1.0, i - n) for i in range(n)] if n < 900 else [float(i) for i in range(n)]
+
+
+def random_mults(rng, degree, n):
+    out = [rng.pick([1, 1, 1, 1 + rng.below(degree)]) for _ in range(n)]
+    ends = rng.below(4)
+    if ends == 0:
+        out[0], out[-1] = 1 + rng.below(degree + 1), 1 + rng.below(degree + 1)
+    elif ends == 1:
+        out[0], out[-1] = degree, degree + 1
+    else:
+        out[0] = out[-1] = degree + 1
+    return out
+
+
+def random_weights(rng, n):
+    way = rng.below(4)
+    if way == 0:
+        return [rng.pick([1.0, 2.0, 0.5]) for _ in range(n)]
+    if way == 1:
+        return [BINADE(rng.below(21) - 10) for _ in range(n)]
+    return [rng.between(0.2, 5.0) for _ in range(n)]
+
+
+def random_poles(rng, n, style):
+    way = rng.below(6)
+    if way == 0:  # along a straight line
+        p, d = [random_coordinate(rng, style) for _ in range(3)], [random_coordinate(rng, 'grid') for _ in range(3)]
+        return [tuple(p[c] + d[c] * i for c in range(3)) for i in range(n)]
+    if way == 1:  # advancing along x
+        step = rng.pick([0.25, 1.0, 10.0])
+        return [(i * step, random_coordinate(rng, style) * 0.5, 0.0) for i in range(n)]
+    if way == 2:  # in a plane
+        z = random_coordinate(rng, style)
+        return [(random_coordinate(rng, style), random_coordinate(rng, style), z) for _ in range(n)]
+    return [tuple(random_coordinate(rng, style) for _ in range(3)) for _ in range(n)]
+
+
+def in_limits(poles):
+    top = BINADE(24)
+    return [tuple(max(-top, min(top, x)) for x in p) for p in poles]
+
+
+def random_line(rng, style, pieces=None):
+    """An admitted line."""
+    while True:
+        degree = random_degree(rng)
+        n = 2 + (rng.pick([0, 0, 1, 2, 3, rng.below(12)]) if pieces is None else pieces - 1)
+        knots, mults = random_knots(rng, n), random_mults(rng, degree, n)
+        poles = sum(mults) - degree - 1
+        if degree + 1 <= poles <= 128:
+            weights = random_weights(rng, poles) if rng.chance(0.25) else None
+            return line(degree, knots, mults, in_limits(random_poles(rng, poles, style)), weights)
+
+
+def random_range(rng, l):
+    lo, hi = l.bounds()
+    way = rng.below(8)
+    if way < 4 or not lo < hi:
+        return (lo, hi)
+    if way == 4:
+        return (l.knots[rng.below(len(l.knots))], l.knots[rng.below(len(l.knots))])
+    s, t = rng.between(lo, hi), rng.between(lo, hi)
+    if way == 5:
+        t = s + (hi - lo) * BINADE(-rng.below(60))
+    if way == 6:
+        return rng.pick([(lo, s), (s, hi)])
+    return (min(s, t), min(hi, max(s, t)))
+
+
+def random_gap(rng, style):
+    way = rng.below(8)
+    if way < 3:
+        return rng.pick([0.0, 0.0, -0.0])
+    if way == 3:
+        return BINADE(-rng.below(1075))
+    if way == 4:
+        return rng.pick([0.25, 0.5, 1.0, 2.0, 3.0])
+    if way == 5:
+        return rng.between(0.0, 1.0) * {'metres': 50.0, 'huge': BINADE(23)}.get(style, 1.0)
+    if way == 6:
+        return BINADE(rng.below(25))
+    return rng.between(0.0, 0.1)
+
+
+def random_S(rng):
+    return rng.pick([0, 1, 2, 3, 5, 8, 13, 20, 40, 60, 67, 68, 100, 200, 255, 256, rng.below(257)])
+
+
+def turned_over(rng, l):
+    """The line with its poles in the opposite order, or moved, or cut."""
+    way = rng.below(5)
+    out = l.copy()
+    if way == 0:
+        out.poles = out.poles[::-1]
+    elif way == 1:
+        d = [random_coordinate(rng, 'grid') * rng.pick([0.5, 1.0, 1e-6]) for _ in range(3)]
+        out.poles = in_limits([tuple(x + y for x, y in zip(p, d)) for p in out.poles])
+    elif way == 2:
+        out.poles = [(p[1], p[0], p[2]) for p in out.poles]
+    elif way == 3:
+        out.knots = random_knots(rng, len(out.knots))
+    return out
+
+
+def with_zeros(rng, l):
+    """The line with zeros given either sign."""
+    out = l.copy()
+    sign = lambda x: rng.pick([0.0, -0.0]) if x == 0 else x
+    out.knots = [sign(k) for k in out.knots]
+    out.poles = [tuple(sign(x) for x in p) for p in out.poles]
+    return out
+
+
+def kind_lines(rng):
+    style = rng.pick(STYLES)
+    a, b = random_line(rng, style), random_line(rng, style)
+    if rng.chance(0.3):
+        b = turned_over(rng, a)
+    if rng.chance(0.2):
+        a, b = with_zeros(rng, a), with_zeros(rng, b)
+    return sheet(a, b, random_S(rng), [random_range(rng, a), random_range(rng, b)], random_gap(rng, style))
+
+
+def kind_segments(rng):
+    style = rng.pick(['grid', 'grid', 'fine', 'unit'])
+    point = lambda: tuple(random_coordinate(rng, style) for _ in range(3 if rng.chance(0.5) else 2)) + (0.0,)
+    a, b = (segment(point()[:3], point()[:3]) for _ in range(2))
+    return sheet(a, b, random_S(rng), None, random_gap(rng, style))
+
+
+def kind_small_pieces(rng):
+    """Few pairs, so that number 19 is not met and the allowance is wide."""
+    style = rng.pick(['grid', 'fine', 'unit'])
+    a, b = random_line(rng, style, 1 + rng.below(3)), random_line(rng, style, 1 + rng.below(2))
+    if rng.chance(0.2):
+        b = turned_over(rng, a)
+    return sheet(a, b, rng.pick([10, 30, 60, 100, 135, 203, 256]), None, random_gap(rng, style))
+
+
+def kind_comb(rng):
+    """Pair counts near 12, regions near 819, merging."""
+    n = rng.pick([2, 3, 4, 6, 10, 11, 12, 13])
+    a = comb(n, rng.pick([1.0, 2.0, 0.1]), rng.pick([1.0, 0.5, 1 / 3]))
+    y = rng.pick([0.0, 0.5, 0.25, 1.0, rng.unit()])
+    b = segment((-1.0, y, 0.0), (n + 1.0, rng.pick([y, y, 1.0 - y]), 0.0))
+    s = max(0, min(256, 819 // n - 2 + rng.below(4) if rng.chance(0.5) else rng.below(819 // n)))
+    if rng.chance(0.5):
+        a, b = b, a
+    return sheet(a, b, s, None, rng.pick([0.0, 0.0, 0.01, 0.1]))
+
+
+def kind_cells(rng):
+    """Lines of several spans with hardly any allowance: whole pieces are listed."""
+    style = rng.pick(['grid', 'fine', 'unit'])
+    broken = lambda n: polyline([tuple(random_coordinate(rng, style) * 2 for _ in range(3)) for _ in range(n + 1)])
+    a, b = broken(2 + rng.below(6)), broken(2 + rng.below(6))
+    return sheet(a, b, rng.pick([0, 0, 1, 2, 5]), None, rng.pick([0.0, 0.0, 0.1]))
+
+
+def kind_many_pieces(rng):
+    """Many pieces, few pairs."""
+    degree = rng.pick([1, 2, 3, 7, 8, 15, 17, 18, 25])
+    pieces = rng.pick([20, 60, 78, 79, 100, 113, 126])
+    pieces = min(pieces, 128 - degree)
+    poles = [(float(i), random_coordinate(rng, 'unit') * 0.1, 0.0) for i in range(pieces + degree)]
+    a = clamped(degree, poles)
+    x = rng.between(0.0, pieces + degree)
+    y = rng.pick([0.0, 0.0, 0.3, 5.0])
+    b = segment((x, y - 1.0, 0.0), (x + rng.unit(), y + 1.0, 0.0))
+    ranges = [random_range(rng, a), None]
+    pair = (a, b) if rng.chance(0.5) else (b, a)
+    return sheet(pair[0], pair[1], rng.below(30), ranges if pair[0] is a else ranges[::-1], rng.pick([0.0, 0.1]))
+
+
+def kind_tangent(rng):
+    """Contacts: curved lines that touch a straight one or each other."""
+    h = rng.pick([1.0, 0.5, 3.0, 1 / 3])
+    curve = rng.pick([
+        bezier([(0, h, 0), (2, -h, 0), (4, h, 0)]),
+        bezier([(0, 0, 0), (1, 0, 0), (2, h, 0)]),
+        bezier([(0, -h, 0), (1, h, 0), (3, -h, 0), (4, h, 0)]),
+        bezier([(1, 0, 0), (1, 1, 0), (0, 1, 0)], weights=[1, math.sqrt(0.5), 1]),
+    ])
+    other = rng.pick([segment((0, 0, 0), (4, 0, 0)), segment((0.1, 0, 0), (3.3, 0, 0)),
+                      segment((1, -1, 0), (1, 1, 0)), bezier([(0, -h, 0), (2, h, 0), (4, -h, 0)])])
+    if rng.chance(0.5):
+        curve, other = other, curve
+    return sheet(curve, other, random_S(rng), None, rng.pick([0.0, 0.0, 1e-12, 1e-6, 0.01, 0.1]))
+
+
+def kind_edge(rng):
+    """Straight lines side by side, the gap their distance or one float off."""
+    scale = rng.pick([1.0, 100.0, 1e-3, 1e5])
+    p = [rng.between(-1.0, 1.0) * scale for _ in range(3)]
+    d = [rng.between(-1.0, 1.0) * scale for _ in range(3)]
+    off = rng.pick([[-d[1], d[0], 0.0], [0.0, -d[2], d[1]], [0.1 * scale, 0.0, 0.0], [0.0, 0.0, 0.3 * scale]])
+    f = rng.pick([1.0, 0.1, rng.unit()])
+    q = [p[c] + f * off[c] for c in range(3)]
+    shift = rng.pick([0.0, 0.0, rng.unit(), 1.0])
+    end = lambda o, t: tuple(o[c] + t * d[c] for c in range(3))
+    a, b = segment(end(p, 0.0), end(p, 1.0)), segment(end(q, shift), end(q, 1.0 + shift))
+    gap = math.sqrt(sum((f * x) ** 2 for x in off))
+    gap = rng.pick([gap, gap, after(gap), below(gap), abs(f * off[0]) + abs(f * off[2])])
+    if rng.chance(0.3):
+        b = bezier([b.poles[0], end(q, 0.5 + shift), b.poles[1]])
+    return sheet(a, b, rng.below(60), None, gap) if rng.chance(0.5) else sheet(b, a, rng.below(60), None, gap)
+
+
+def kind_limit(rng):
+    """Coordinates at 2^24 and one or two floats below, cut to inner ranges."""
+    top, degree = BINADE(24), 2 + rng.below(8)
+    n = 2 + rng.below(3)
+    values = [top, top, below(top), below(below(top)), -top, -below(top)]
+    knots, mults = random_knots(rng, n), random_mults(rng, degree, n)
+    poles = max(degree + 1, sum(mults) - degree - 1)
+    far = rng.chance(0.7)
+    a = line(degree, knots, mults, [tuple(rng.pick(values[:4] if far else values) for _ in range(3))
+                                    for _ in range(poles)])
+    if rng.chance(0.4):
+        a.weights = random_weights(rng, poles)
+    ranges = [random_range(rng, a), None]
+    return sheet(a, segment((top, top, top), (below(top), top, top)), rng.below(10), ranges, rng.pick([0.0, 1.0]))
+
+
+def kind_measure(rng):
+    """Knots so near that reciprocals overflow."""
+    h = BINADE(-1010 - rng.below(64)) * (1 + rng.below(3))
+    degree = 1 + rng.below(4)
+    n = 2 + rng.below(4)
+    knots = [0.0]
+    for i in range(n - 1):
+        knots.append(knots[-1] + (h if rng.chance(0.6) else rng.pick([1.0, h * 8, BINADE(-500)])))
+    if len(set(knots)) < n:
+        knots = [i * h for i in range(n)]
+    mults = random_mults(rng, degree, n)
+    poles = max(0, sum(mults) - degree - 1)
+    a = line(degree, knots, mults, random_poles(rng, poles, 'grid'))
+    b = random_line(rng, 'grid', 1 + rng.below(2))
+    ranges = [random_range(rng, a) if poles > degree else (0.0, 1.0), None]
+    if rng.chance(0.4):
+        a, b, ranges = b, a, ranges[::-1]
+    return sheet(a, b, rng.below(20), ranges, rng.pick([0.0, 1.0]))
+
+
+def kind_spoilt(rng):
+    """One or more faults of the table."""
+    number = 4 + rng.below(15)
+    a, b = random_line(rng, 'grid', 2), random_line(rng, 'grid', 1)
+    ranges, gap, s = [None, None], rng.pick([0.0, 1.0]), rng.below(40)
+    if number <= 14:
+        l = spoilt(number, rng)
+        while rng.chance(0.3):
+            spoil_into(l, 4 + rng.below(11), rng)
+        a, b = (l, b) if rng.chance(0.5) else (a, l)
+        if rng.chance(0.2):
+            a = spoilt(4 + rng.below(11), rng)
+    if number == 15 or rng.chance(0.1):
+        ranges[rng.below(2)] = rng.pick([(1, 0), (NAN, 1), (0, INF), (-1e9, 1), (0, 1e9), (0.5, 0.5)])
+    if number == 16 or rng.chance(0.1):
+        gap = rng.pick(BAD_FLOATS + [-1.0, 2e7])
+    if number == 17 or rng.chance(0.1):
+        s = 257 + rng.below(5000)
+    if number == 18:
+        k = rng.below(2)
+        lo = (a, b)[k].bounds()[0]
+        up = abs(lo) if lo != 0 else 0.0
+        ranges[k] = (lo, after(up)) if lo >= 0 else (lo, -below(up))
+    return sheet(a, b, s, ranges, gap)
+
+
+def kind_damaged(rng):
+    """A sheet cut short, with bits turned, or with words changed."""
+    data = bytearray(rng.pick([kind_lines, kind_segments, kind_comb, kind_spoilt])(rng)[:16384])
+    way = rng.below(6)
+    if way == 0:
+        return bytes(data[:rng.below(len(data) + 1)])
+    if way == 1:
+        return bytes(data[:4 * rng.below(len(data) // 4 + 1)])
+    if way == 2:
+        for _ in range(1 + rng.below(3)):
+            data[rng.below(len(data))] ^= 1 << rng.below(8)
+        return bytes(data)
+    at = 4 * rng.below(len(data) // 4)
+    new = rng.pick([head(rng.below(16), rng.below(6)), words([rng.below(1 << 32)]),
+                    head(1 + rng.below(7), 0x0FFFFFFF)])
+    if way == 3:
+        data[at:at + 4] = new
+    elif way == 4:
+        data[at:at] = new
+    else:
+        del data[at:at + 4]
+    return bytes(data)
+
+
+def kind_wild(rng):
+    """Admitted counts with floats of any bits in places."""
+    a, b = random_line(rng, 'grid', 1 + rng.below(3)), random_line(rng, 'grid', 1)
+    for l in (a, b):
+        if rng.chance(0.5):
+            i = rng.below(len(l.poles))
+            p = list(l.poles[i])
+            p[rng.below(3)] = rng.pick([rng.bits(), BINADE(24), -BINADE(24), TINY, -TINY, BINADE(-500)])
+            l.poles[i] = tuple(p)
+        if rng.chance(0.15):
+            l.knots[rng.below(len(l.knots))] = rng.bits()
+        if rng.chance(0.15):
+            l.weights = [rng.pick([1.0, 2.0, rng.bits()]) for _ in l.poles]
+    return sheet(a, b, random_S(rng), None, rng.pick([0.0, 1.0, abs(rng.bits())]))
+
+
+def kind_bytes(rng):
+    """Words at random."""
+    n = rng.pick([0, 1, 4, 8, 16384, 16388, rng.below(200), 4 * rng.below(60)])
+    if n > 1000:
+        return (kind_segments(rng) + bytes(n))[:n]
+    return bytes(rng.below(256) for _ in range(n))
+
+
+KINDS = [(kind_lines, 30), (kind_segments, 12), (kind_small_pieces, 18), (kind_comb, 8), (kind_cells, 6),
+         (kind_many_pieces, 4), (kind_tangent, 6), (kind_measure, 5), (kind_edge, 5), (kind_limit, 3),
+         (kind_spoilt, 10), (kind_damaged, 10), (kind_wild, 5), (kind_bytes, 2)]
+
+
+def random_sheet(rng):
+    """(kind, bytes) of one random sheet."""
+    at = rng.below(sum(n for _, n in KINDS))
+    for make, n in KINDS:
+        if at < n:
+            return make.__name__[5:], make(rng)
+        at -= n
+
+
+def random_sheets(seed, count):
+    """`count` random sheets; sheet i depends on the seed and i alone."""
+    for i in range(count):
+        yield random_sheet(Rng(seed * 1000003 + i))
+
+
+# ---- files ------------------------------------------------------------------------
+
+
+def write_examples(folder):
+    os.makedirs(folder, exist_ok=True)
+    for name, make in EXAMPLES:
+        with open(os.path.join(folder, name + '.sheet'), 'wb') as f:
+            f.write(make())
+
+
+def answer_of(program, data):
+    return subprocess.run([program], input=data, stdout=subprocess.PIPE, check=True).stdout.decode('ascii')
+
+
+def bucket(kind, answer):
+    """Sheets of one bucket are alike: the replay list takes a few of each."""
+    first = answer.split('\n', 1)[0].split(' ')
+    if first[0] == 'refused':
+        return tuple(first), 3
+    count = {k: int(v) for k, v in (f.split('=') for f in first[1:])}
+    return (kind, first[0], min(count['regions'], 3), count['visits'].bit_length() // 3), 1
+
+
+REPLAY_SEED, REPLAY_TRIED, REPLAY_BYTES, REPLAY_TEXT = 12, 2000, 1000, 1500
+REPLAY_GROUPS = [(checks, 2), (point_contacts, 2), (word_faults, 8), (empty_parts, 3), (line_faults, 7),
+                 (question_faults, 3), (memory_faults, 5), (merging, 4), (zero_starts, 1), (tiny_coordinates, 3),
+                 (measures, 5), (pairs_of_lines, 8), (picked, 1)]
+REPLAY_ALSO = {
+    'example', 'crossing-S0', 'crossing-S1', 'parallel-gap0.5', 'parallel-gap1.0', 'far', 'nan-net', 'degree25',
+    'degree26', 'length-0', 'length-1', 'length-16384', 'length-16388', 'second-stops', 'weights-0-last-word',
+    'end-count-1-and-words', 'words-after-end', 'end-count-1', 'poles-count-aaaaaab', 'S-huge', 'empty-sum-below',
+    'empty-sum-2-second', 'empty-no-length', 'no5-0-first', 'no6-and-no7', 'no8-and-no9', 'no14-with-no4',
+    'mults-inner-over-first', 'mults-inner-full-second', 'mults-last-over-second', 'knots-at-limit',
+    'weights-at-limit', 'coordinates-at-limit', 'gap-at-limit', 'knots-128', 'knots-129', 'poles-128', 'poles-129',
+    'no15-0-gap', 'no16-0-S', 'no17-257', 'no17-257-breaks', 'narrow-0', 'no18-0-then-15', 'no18-1-first',
+    'no18-1-second', 'no18-knots-second', 'near-knots-from', 'gap-negative-zero', 'pairs-12-S-67', 'pairs-12-S-68',
+    'pairs-13-S-62', 'regions-4-204', 'regions-9-90', 'pieces-113-degree-15', 'pieces-107-degree-18',
+    'pieces-107-degree-18-second', 'pieces-126-degree-15', 'pairs-16129', 'pairs-0', 'star-6', 'two-passes-S0',
+    'twice-round', 'equal-starts', 'zeros-0-1', 'minus-zero-poles', 'f0-is-1', 'tiny-0', 'mixed-2^-1072'}
+
+
+def replay_sheets(program):
+    """(bytes, answer) of the replay list: drawn sheets, thinned by group, and
+    random ones, a few of each bucket."""
+    for group, every in REPLAY_GROUPS:
+        for i, (name, data) in enumerate(group()):
+            if i % every == 0 or name in REPLAY_ALSO:
+                if len(data) <= 2000 or name in REPLAY_ALSO:
+                    yield data, answer_of(program, data)
+    for _, make in EXAMPLES:
+        yield make(), answer_of(program, make())
+    taken = {}
+    for kind, data in random_sheets(REPLAY_SEED, REPLAY_TRIED):
+        if len(data) > REPLAY_BYTES:
+            continue
+        answer = answer_of(program, data)
+        at, most = bucket(kind, answer)
+        if taken.get(at, 0) < most and len(answer) <= REPLAY_TEXT:
+            taken[at] = taken.get(at, 0) + 1
+            yield data, answer
+
+
+def write_replay(folder, program):
+    os.makedirs(folder, exist_ok=True)
+    count = 0
+    with open(os.path.join(folder, 'sheets.bin'), 'wb') as f, \
+            open(os.path.join(folder, 'answers.txt'), 'w', newline='\n') as g:
+        for data, answer in replay_sheets(program):
+            f.write(packed(data))
+            g.write(answer + '---\n')
+            count += 1
+    print('%d sheets' % count)
+
+
+def main(args):
+    if args[:1] == ['--examples'] and len(args) == 2:
+        write_examples(args[1])
+    elif args == ['--list']:
+        for name, data in drawn():
+            print(len(data), name)
+    elif args[:1] == ['--many'] and len(args) == 3:
+        for _, data in random_sheets(int(args[1]), int(args[2])):
+            sys.stdout.buffer.write(packed(data))
+    elif args[:1] == ['--replay'] and len(args) == 3:
+        write_replay(args[1], args[2])
+    else:
+        sys.exit(__doc__)
+
+
+if __name__ == '__main__':
+    main(sys.argv[1:])
