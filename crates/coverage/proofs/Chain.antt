@@ -27,7 +27,7 @@ use Rattle.search.specs.Steps.{stepDef, judgeAt, ownDef}
 use Rattle.report.specs.declared.Reported.the-variants.{Told, Running, NoRoom as ReportNoRoom}
 use Rattle.report.specs.Reports.{reporting, leftRegions, rawAfter, writeReport, reportDef}
 use Rattle.coverage.specs.Calls.{Call, step, own, report, Answer, judged, reported, Outcome, lend, giveBack, call, Ran, runAll, stepOutcome, reportOutcome, backIn}
-use Rattle.coverage.specs.Asked.{Asked, shape, pairsOf, start, stateOf, tally, netOf1, netOf2, depthOf, rawList}
+use Rattle.opening.specs.Asked.{Asked, shape, pairsOf, start, stateOf, tally, netOf1, netOf2, depthOf, rawList}
 use Rattle.coverage.specs.Rules.{Ruled, lent, suffices, stepRule, testTop, ownRule, heard, reportRule, callRule, RuledAll, ruleAll}
 use Rattle.coverage.specs.Claim.{AllStored}
 use Rattle.coverage.proofs.Refine.{agree-stored, Room, room-of, fits-in, RoomOwn, room-own, start-block, agree-lend, agree-back, lend-back, lend-sizes, back-sizes, Numbers, Held, part1-is, part2-is, flats-length, map-append, length-mapped, raw-more, counts-tally, StepSim, unchanged, moved, search, ruleWith, top-depth, is-search, step-sim}

@@ -10,6 +10,7 @@ use lib.Dec.{T, leb, lit<}
 use lib.ListN.{length, take, drop, replicate}
 use lib.Seq.{take-at}
 use lib.Ieee.{Float, le}
+use Rattle.floats.specs.Stations.{InRange, Piece, Cut, piecesFrom, endFrom}
 use Rattle.lists.specs.Members.{Any, All}
 use Rattle.lists.proofs.Members.{any-left, any-right, any-reverse, all-append, all-reverse}
 use Rattle.verdicts.specs.declared.Verdict.{Verdict}
@@ -25,20 +26,21 @@ use Rattle.floats.proofs.Order.{le-total, right-number, le-trans-float, least-i
 use Rattle.floats.proofs.Middle.{within-number, middle-within}
 use Rattle.regions.specs.declared.Region.{Region}
 use Rattle.regions.specs.declared.Word.the-variants.{Complete}
+use Rattle.regions.specs.Stations.{InRegion}
 use Rattle.regions.specs.Regions.{touchesOf, merging, flats}
 use Rattle.regions.specs.Reports.{wordFor, reportSlice}
 use Rattle.states.specs.declared.State.{State}
 use Rattle.search.specs.declared.Stepped.the-variants.{Next, Ended, NoRoom}
 use Rattle.search.specs.declared.Own.{Own}
 use Rattle.search.specs.declared.Own.the-variants.{Is, Ended as OwnEnded, NoRoom as OwnNoRoom}
-use Rattle.search.specs.Geometry.{Piece, InRange, regionOf}
+use Rattle.search.specs.Geometry.{regionOf}
 use Rattle.states.specs.States.{Memory, Sizes, sizes, needed, enough}
 use Rattle.search.specs.Steps.{halves}
 use Rattle.report.specs.declared.Reported.the-variants.{Told, Running, NoRoom as ReportNoRoom}
 use Rattle.coverage.specs.Calls.{Call, step, own, report, Answer, stepped, judged, reported, runAll}
-use Rattle.coverage.specs.Asked.{Cut, piecesFrom, endFrom, Asked, shape, pieces1, pieces2, In1, In2, pairsOf, start, stateOf, tally, netOf1, netOf2, openMemory, rawList}
+use Rattle.opening.specs.Asked.{Asked, shape, pieces1, pieces2, In1, In2, pairsOf, start, stateOf, tally, netOf1, netOf2, openMemory, rawList}
 use Rattle.coverage.specs.Rules.{Ruled, suffices, sufficesOwn, stepRule, testTop, ownRule, heard, reportRule, callRule, ruleAll}
-use Rattle.coverage.specs.Claim.{bound, FineLine, Accounted, InRegion, GoodAnswer, After, Fine, GoodReport}
+use Rattle.coverage.specs.Claim.{bound, FineLine, Accounted, GoodAnswer, After, Fine, GoodReport}
 use Rattle.coverage.proofs.Refine.{flats-length, search}
 use Rattle.coverage.proofs.Chain.{chain}
 use Rattle.coverage.proofs.Opening.{all-pieces, open-inv}
@@ -60,16 +62,6 @@ halving q = record {
     sh : (u : Bool) (p : Piece) → SoundPiece p → SoundPiece (half (shape q) u p)
     sh true p h = (mid-fine p h, h .1)
     sh false p h = (h .0, mid-fine p h)
-
--- ---- the pieces hold every station of the asked range
-holds-from : (w : ℕ) (from : Float) (c : Cut) (cs : List Cut) (s : Float) → FineLine w from (c ∷ cs) → InRange from (endFrom from (c ∷ cs)) s
-    → Any (λ (p : Piece). InRange (p .lo) (p .hi) s) (piecesFrom from (c ∷ cs))
-holds-from w from c [] s f h = inl h
-holds-from w from c (d ∷ cs) s f h =
-    elim (le-total s (c .to) (right-number from s (h .0)) (within-number (2 ^ bound) (c .to) (f .1 .0 .0))) [
-      | inl x ↦ inl (h .0, x)
-      | inr y ↦ inr (holds-from w (c .to) d cs s (f .1 .0 .0, f .1 .1) (y, h .1))
-    ]
 
 -- ---- regions
 abbrev Ends : Region → Type 0
@@ -344,10 +336,10 @@ module _ (q : Asked) (full : Sizes) where
 ok-start : (q : Asked) → Fine q → Ok q (start q)
 unfolding halving
 ok-start q O = record {
-    covered = λ s t a b. cover-fresh (shape q) s t (pieces1 q) (pieces2 q) (q .quota * pairsOf q) (holds-from (q .width1) (q .from1) (q .first1) (q .rest1) s (O .fine1) a) (holds-from (q .width2) (q .from2) (q .first2) (q .rest2) t (O .fine2) b);
+    covered = λ s t a b. cover-fresh (shape q) s t (pieces1 q) (pieces2 q) (q .quota * pairsOf q) (O .covers1 s a) (O .covers2 t b);
     sound = sound-fresh (shape q) (halving q) (pieces1 q) (pieces2 q) (q .quota * pairsOf q)
-      (all-pieces SoundPiece (q .width1) (q .from1) (q .first1 ∷ q .rest1) (λ lo hi l x y e. (x, y)) (O .fine1))
-      (all-pieces SoundPiece (q .width2) (q .from2) (q .first2 ∷ q .rest2) (λ lo hi l x y e. (x, y)) (O .fine2));
+      (all-pieces SoundPiece (q .width1) (q .lo1) (q .cuts1) (λ lo hi l x y e. (x, y)) (O .fine1))
+      (all-pieces SoundPiece (q .width2) (q .lo2) (q .cuts2) (λ lo hi l x y e. (x, y)) (O .fine2));
     soundGiven = tt;
     cleared = tt;
     honest = λ t. absurd t }

@@ -9,6 +9,7 @@ use lib.Dec.{T}
 use lib.ListN.{length, take, drop, length-append}
 use lib.Seq.{take-at, drop-at}
 use lib.Ieee.{Float}
+use Rattle.floats.specs.Stations.{Piece, Cut, piecesFrom}
 use Rattle.lists.specs.Members.{All}
 use Rattle.lists.proofs.Members.{all-append}
 use Rattle.lists.specs.Parts.{block}
@@ -16,9 +17,8 @@ use Rattle.lists.proofs.Parts.{patch-length}
 use Rattle.machine.specs.Machine.{Shape, Node, limit, depth, atPieces, row, pushed}
 use Rattle.machine.proofs.Cover.{count-fresh}
 use Rattle.floats.specs.Sizes.{Within}
-use Rattle.search.specs.Geometry.{Piece}
 use Rattle.states.specs.States.{Memory, sizes, needed, enough}
-use Rattle.coverage.specs.Asked.{Cut, piecesFrom, Asked, shape, pieces1, pieces2, pushedPairs, pairsOf, start, stateOf, netOf1, netOf2, rangesOf, depthOf, concat, openMemory}
+use Rattle.opening.specs.Asked.{Asked, shape, pieces1, pieces2, pushedPairs, pairsOf, start, stateOf, netOf1, netOf2, rangesOf, depthOf, concat, openMemory}
 use Rattle.coverage.specs.Claim.{bound, FineLine, Stored, AllStored, Fine}
 use Rattle.coverage.proofs.Refine.{room-of, fits-in}
 use Rattle.coverage.proofs.Chain.{Inv}
@@ -86,10 +86,10 @@ open-inv q u O room =
     let R = room-of q (sizes u) room in
     let la : All (λ (n : Node (shape q)). length (netOf1 q n) ≡ 4 * q .width1) N =
           all-pushed (shape q) (λ (p : Piece). length (p .net) ≡ 4 * q .width1) (λ (p : Piece). Unit {0}) (λ (n : Node (shape q)). length (netOf1 q n) ≡ 4 * q .width1) (λ p p' a b. a) (pieces1 q) (pieces2 q)
-          (all-pieces (λ (p : Piece). length (p .net) ≡ 4 * q .width1) (q .width1) (q .from1) (q .first1 ∷ q .rest1) (λ lo hi l x y e. e) (O .fine1)) (all-same (λ (p : Piece). Unit {0}) (λ (p : Piece). tt) (pieces2 q)) in
+          (all-pieces (λ (p : Piece). length (p .net) ≡ 4 * q .width1) (q .width1) (q .lo1) (q .cuts1) (λ lo hi l x y e. e) (O .fine1)) (all-same (λ (p : Piece). Unit {0}) (λ (p : Piece). tt) (pieces2 q)) in
     let lb : All (λ (n : Node (shape q)). length (netOf2 q n) ≡ 4 * q .width2) N =
           all-pushed (shape q) (λ (p : Piece). Unit {0}) (λ (p : Piece). length (p .net) ≡ 4 * q .width2) (λ (n : Node (shape q)). length (netOf2 q n) ≡ 4 * q .width2) (λ p p' a b. b) (pieces1 q) (pieces2 q)
-          (all-same (λ (p : Piece). Unit {0}) (λ (p : Piece). tt) (pieces1 q)) (all-pieces (λ (p : Piece). length (p .net) ≡ 4 * q .width2) (q .width2) (q .from2) (q .first2 ∷ q .rest2) (λ lo hi l x y e. e) (O .fine2)) in
+          (all-same (λ (p : Piece). Unit {0}) (λ (p : Piece). tt) (pieces1 q)) (all-pieces (λ (p : Piece). length (p .net) ≡ 4 * q .width2) (q .width2) (q .lo2) (q .cuts2) (λ lo hi l x y e. e) (O .fine2)) in
     let lr : All (λ (n : Node (shape q)). length (rangesOf q n) ≡ 4) N = all-same (λ (n : Node (shape q)). length (rangesOf q n) ≡ 4) (λ n. refl) N in
     let ld : All (λ (n : Node (shape q)). length (depthOf q n) ≡ 1) N = all-same (λ (n : Node (shape q)). length (depthOf q n) ≡ 1) (λ n. refl) N in
     record {

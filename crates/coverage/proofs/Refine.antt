@@ -10,6 +10,7 @@ use lib.ListN.{length, take, drop, getD, length-append, length-take, length-drop
 use lib.Seq.{length-take-le, take-at}
 use lib.Ieee.{Float, nan}
 use lib.Ieee.Fits.{and-l, and-r, and-i, eq→eqb}
+use Rattle.floats.specs.Stations.{Piece}
 use Rattle.lists.specs.Parts.{block, patch}
 use Rattle.lists.proofs.Parts.{patch-length, block-take, block-append, block-before, block-first, block-second}
 use Rattle.verdicts.specs.declared.Verdict.{Verdict}
@@ -20,12 +21,12 @@ use Rattle.regions.specs.declared.Region.{Region}
 use Rattle.regions.specs.Regions.{flat, flats}
 use Rattle.states.specs.declared.State.{State}
 use Rattle.search.specs.declared.Stepped.the-variants.{Next, Ended, NoRoom}
-use Rattle.search.specs.Geometry.{Piece, regionOf}
+use Rattle.search.specs.Geometry.{regionOf}
 use Rattle.states.specs.States.{Memory, memory, Sizes, sizes, needed, enough, enoughOwn, topDepth, isZero, topFits, isSearch, over, countsOf, depthAt}
 use Rattle.search.specs.Steps.{part1, part2}
 use Rattle.search.specs.Steps.{Stepping, stepping, givenState, halves, splitMemory, giveUpAt, divideAt, actOn, stepDef}
 use Rattle.coverage.specs.Calls.{step, own, stepped, Outcome, after, lend, giveBack, stepOutcome}
-use Rattle.coverage.specs.Asked.{Asked, shape, pairsOf, start, stateOf, tally, depthOf}
+use Rattle.opening.specs.Asked.{Asked, shape, pairsOf, start, stateOf, tally, depthOf}
 use Rattle.coverage.specs.Rules.{Ruled, lent, suffices}
 use Rattle.coverage.specs.Claim.{Stored, AllStored}
 

@@ -17,12 +17,14 @@ use Rattle.regions.specs.declared.Word.{Word}
 use Rattle.regions.specs.declared.Word.the-variants.{Complete}
 use Rattle.regions.specs.Regions.{merging, flats}
 use Rattle.states.specs.declared.Counts.{Counts}
-use Rattle.search.specs.Geometry.{InRange, regionOf}
+use Rattle.floats.specs.Stations.{InRange, Piece, Cut}
+use Rattle.regions.specs.Stations.{InRegion}
+use Rattle.search.specs.Geometry.{regionOf}
 use Rattle.states.specs.States.{Memory}
 use Rattle.report.specs.declared.Reported.{Reported}
 use Rattle.report.specs.declared.Reported.the-variants.{Told, Running, NoRoom}
 use Rattle.coverage.specs.Calls.{Answer, stepped, judged, reported, Ran}
-use Rattle.coverage.specs.Asked.{Cut, Asked, shape, pieces1, pieces2, In1, In2, stateOf, tally, netOf1, netOf2, rangesOf, depthOf}
+use Rattle.opening.specs.Asked.{Asked, shape, pieces1, pieces2, In1, In2, stateOf, tally, netOf1, netOf2, rangesOf, depthOf}
 
 -- ---- what admission and an unrefused opening give
 -- ends of pieces are finite and at most 2 ^ bound in size; nets have the line's width
@@ -33,8 +35,11 @@ abbrev pub FineLine : ℕ → Float → List Cut → Type 0
 FineLine w from cs = Within (2 ^ bound) from × All (λ (c : Cut). Within (2 ^ bound) (c .to) × (length (c .net) ≡ 4 * w)) cs
 
 pub record Fine (q : Asked) : Type 0 where
-  pub fine1 : FineLine (q .width1) (q .from1) (q .first1 ∷ q .rest1)
-  pub fine2 : FineLine (q .width2) (q .from2) (q .first2 ∷ q .rest2)
+  pub fine1 : FineLine (q .width1) (q .lo1) (q .cuts1)
+  pub fine2 : FineLine (q .width2) (q .lo2) (q .cuts2)
+  -- each station of an asked range lies in some piece's range
+  pub covers1 : (s : Float) → In1 q s → Any (λ (p : Piece). InRange (p .lo) (p .hi) s) (pieces1 q)
+  pub covers2 : (t : Float) → In2 q t → Any (λ (p : Piece). InRange (p .lo) (p .hi) t) (pieces2 q)
   pub lower-length : (w : ℕ) (l : List Float) → length l ≡ 4 * w → length (q .geometry .lowerNet l) ≡ 4 * w
   pub upper-length : (w : ℕ) (l : List Float) → length l ≡ 4 * w → length (q .geometry .upperNet l) ≡ 4 * w
 
@@ -51,9 +56,6 @@ AllStored q u [] = Unit {0}
 AllStored q u (n ∷ r) = Stored q u (length r) n × AllStored q u r
 
 -- ---- a report that is not refused
-abbrev pub InRegion : Float → Float → Region → Type 0
-InRegion s t r = InRange (r .a0) (r .a1) s × InRange (r .b0) (r .b1) t
-
 -- the pair of stations lies in a piece pair set apart by its boxes, a settled node or a reported region
 abbrev pub Accounted : (q : Asked) → Search (shape q) → List Region → Float → Float → Type 0
 Accounted q m out s t = SetApart (shape q) (pieces1 q) (pieces2 q) s t ⊎ (Any (λ (e : Settling (shape q)). InNode (shape q) s t (e .node)) (m .settled) ⊎ Any (InRegion s t) out)

@@ -1,4 +1,4 @@
 pub mod Calls
-pub mod Asked
 pub mod Rules
 pub mod Claim
+pub mod Demand3

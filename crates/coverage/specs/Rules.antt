@@ -17,7 +17,7 @@ use Rattle.search.specs.declared.Own.the-variants.{Is, Ended as OwnEnded, NoRoo
 use Rattle.states.specs.States.{Sizes, needed, enough, enoughOwn}
 use Rattle.report.specs.declared.Reported.the-variants.{Told, Running, NoRoom as ReportNoRoom}
 use Rattle.coverage.specs.Calls.{Call, step, own, report, Answer, stepped, judged, reported}
-use Rattle.coverage.specs.Asked.{Asked, shape, pairsOf, start, stateOf, tally, rawList, netOf1, netOf2}
+use Rattle.opening.specs.Asked.{Asked, shape, pairsOf, start, stateOf, tally, rawList, netOf1, netOf2}
 
 pub record Ruled (q : Asked) : Type 0 where
   pub answer : Answer

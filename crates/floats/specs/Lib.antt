@@ -1,3 +1,4 @@
 pub mod Floats
 pub mod Vectors
 pub mod Sizes
+pub mod Stations

@@ -4,6 +4,7 @@ use mathlib.Core.List.{List}
 use mathlib.Core.Bool.{Bool, not, _&&_, and-comm}
 use lib.Dec.{T}
 use lib.Ieee.{Float, le}
+use Rattle.floats.specs.Stations.{InRange}
 use Rattle.lists.specs.Members.{Any, All, Pairwise}
 use Rattle.floats.specs.Sizes.{Number}
 use Rattle.floats.specs.Floats.{least, greatest}
@@ -13,7 +14,7 @@ use Rattle.machine.specs.Covered.{Off}
 use Rattle.machine.proofs.Merged.{Keeping, merged-off, merged-has}
 use Rattle.regions.specs.declared.Region.{Region}
 use Rattle.regions.specs.Regions.{touchesOf, unionOf, merging}
-use Rattle.regions.specs.Stations.{InRange, InRegion, Valid}
+use Rattle.regions.specs.Stations.{InRegion, Valid}
 
 -- ---- touching
 pub touch-comm : (r q : Region) → touchesOf r q ≡ touchesOf q r

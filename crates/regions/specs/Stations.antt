@@ -1,12 +1,9 @@
 -- Where a pair of stations lies in a region, and one region in another (document 01, demand 3: a range holds both its ends). Definitions only.
 use lib.Dec.{T}
 use lib.Ieee.{Float, le}
+use Rattle.floats.specs.Stations.{InRange}
 use Rattle.floats.specs.Sizes.{Number}
 use Rattle.regions.specs.declared.Region.{Region}
-
--- from lo to hi, ends included; no NaN is
-abbrev pub InRange : Float → Float → Float → Type 0
-InRange lo hi s = T (le lo s) × T (le s hi)
 
 -- s in the range of the first line, t in that of the second
 abbrev pub InRegion : Float → Float → Region → Type 0

@@ -9,6 +9,7 @@ use lib.Dec.{lit<, leb}
 use lib.ListN.{length, getD}
 use lib.Ieee.{Float, nan}
 use borrow.Author.Tests.{le-leb, lt-leb}
+use Rattle.floats.specs.Stations.{Piece}
 use Rattle.lists.specs.Parts.{block, patch}
 use Rattle.lists.proofs.Parts.{part-length}
 use Rattle.verdicts.specs.declared.Verdict.the-variants.{Settled, Split, Unseparated}
@@ -20,7 +21,7 @@ use Rattle.regions.specs.Regions.{flat}
 use Rattle.states.specs.declared.State.{State}
 use Rattle.states.specs.States.{Memory, memory, depthAt}
 use Rattle.search.specs.declared.Stepped.the-variants.{Next}
-use Rattle.search.specs.Geometry.{Piece, regionWith}
+use Rattle.search.specs.Geometry.{regionWith}
 use Rattle.search.specs.Nets.{bothBoxes, geometry}
 use Rattle.search.specs.Steps.{Stepping, stepping, part1, part2, settledState, givenState, stoppedState, halvedState, halves, splitMemory, giveUpAt, divideAt, actOn}
 use Rattle.search.specs.Writes.{slotsAfter, rangesHalved, rangesAfter, depthsAfter}

@@ -6,6 +6,7 @@ use Prim.Native.Nat.{ℕ, zero, suc, _+_, _*_, _≤_, _<_}
 use native.Mathlib.Numerals.{add-one}
 use native.Mathlib.Omega.{arith}
 use lib.Dec.{leb}
+use Rattle.floats.specs.Stations.{Piece}
 use Rattle.verdicts.specs.declared.Verdict.{Verdict}
 use Rattle.verdicts.specs.declared.Verdict.the-variants.{Settled, Split, Unseparated}
 use Rattle.machine.specs.Machine.{limit}
@@ -15,7 +16,7 @@ use Rattle.search.specs.declared.Stepped.{Stepped}
 use Rattle.search.specs.declared.Stepped.the-variants.{Next, Ended, NoRoom}
 use Rattle.search.specs.declared.Own.{Own}
 use Rattle.search.specs.declared.Own.the-variants.{Is, Ended as OwnEnded, NoRoom as OwnNoRoom}
-use Rattle.search.specs.Geometry.{Geometry, Piece}
+use Rattle.search.specs.Geometry.{Geometry}
 use Rattle.search.specs.Steps.{Stepping, stepping, part1, part2, settledState, givenState, stoppedState, halvedState, divideAt, actOn, stepDef, judgeAt, ownDef}
 use Rattle.search.specs.Runs.{carriedOut, ownStepDef, turned, runFor, runDef}
 use Rattle.search.proofs.Tests.{waits}

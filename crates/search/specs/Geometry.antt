@@ -4,6 +4,7 @@ use mathlib.Core.Bool.{Bool, true, false}
 use lib.Dec.{T}
 use lib.ListN.{getD}
 use lib.Ieee.{Float, nan, le}
+use Rattle.floats.specs.Stations.{InRange, Piece}
 use Rattle.verdicts.specs.declared.Verdict.{Verdict}
 use Rattle.floats.specs.Floats.{middle}
 use Rattle.machine.specs.Machine.{Shape, Node, partOf}
@@ -28,22 +29,12 @@ pub record Geometry : Type 0 where
   pub secondHalved : List Float → List Float → Bool
   pub corners : List Float → List Float → Corners
 
--- one line's range and net
-pub record Piece : Type 0 where
-  pub lo : Float
-  pub hi : Float
-  pub net : List Float
-
 -- `split` of the Rust: a half has half the net, and its range holds the middle
 abbrev pub lowerHalf : Geometry → Piece → Piece
 lowerHalf G p = record { lo = p .lo; hi = middle (p .lo) (p .hi); net = G .lowerNet (p .net) }
 
 abbrev pub upperHalf : Geometry → Piece → Piece
 upperHalf G p = record { lo = middle (p .lo) (p .hi); hi = p .hi; net = G .upperNet (p .net) }
-
--- a station is any double in the range, which holds both its ends
-abbrev pub InRange : Float → Float → Float → Type 0
-InRange lo hi s = T (le lo s) × T (le s hi)
 
 abbrev pub floats : Geometry → Float → Shape
 floats G gap = record {

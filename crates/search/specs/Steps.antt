@@ -5,6 +5,7 @@ use Prim.Native.Nat.{ℕ, zero, suc, _+_, _*_}
 use lib.Dec.{leb}
 use lib.ListN.{getD}
 use lib.Ieee.{nan}
+use Rattle.floats.specs.Stations.{Piece}
 use Rattle.lists.specs.Parts.{block, patch}
 use Rattle.verdicts.specs.declared.Verdict.{Verdict}
 use Rattle.verdicts.specs.declared.Verdict.the-variants.{Settled, Split, Unseparated}
@@ -15,7 +16,7 @@ use Rattle.search.specs.declared.Stepped.{Stepped}
 use Rattle.search.specs.declared.Stepped.the-variants.{Next, Ended, NoRoom}
 use Rattle.search.specs.declared.Own.{Own}
 use Rattle.search.specs.declared.Own.the-variants.{Is, Ended as OwnEnded, NoRoom as OwnNoRoom}
-use Rattle.search.specs.Geometry.{Geometry, Piece, lowerHalf, upperHalf, regionFor}
+use Rattle.search.specs.Geometry.{Geometry, lowerHalf, upperHalf, regionFor}
 use Rattle.states.specs.States.{Memory, sizes, needed, enough, enoughOwn, depthAt, isSearch, over}
 
 -- the paper's number for each answer, 0 for one that is no refusal

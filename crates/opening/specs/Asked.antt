@@ -9,31 +9,19 @@ use Rattle.machine.specs.Machine.{Shape, Node, Search, partOf, depth, pushed, f
 use Rattle.regions.specs.declared.Region.{Region}
 use Rattle.states.specs.declared.State.{State}
 use Rattle.states.specs.declared.Counts.{Counts}
-use Rattle.search.specs.Geometry.{Geometry, Piece, InRange, floats, regionOf}
+use Rattle.floats.specs.Stations.{InRange, Piece, Cut, piecesFrom}
+use Rattle.search.specs.Geometry.{Geometry, floats, regionOf}
 use Rattle.states.specs.States.{Memory}
 
--- a piece's end and net; it starts where the one before ends
-pub record Cut : Type 0 where
-  pub to : Float
-  pub net : List Float
-
-abbrev pub piecesFrom : Float → List Cut → List Piece
-piecesFrom from [] = []
-piecesFrom from (c ∷ cs) = record { lo = from; hi = c .to; net = c .net } ∷ piecesFrom (c .to) cs
-
-abbrev pub endFrom : Float → List Cut → Float
-endFrom from [] = from
-endFrom from (c ∷ cs) = endFrom (c .to) cs
-
--- for each line the start of its range, and its pieces, one at least
+-- for each line the asked range and its pieces; the gap, the splits per pair, and the widths of the nets
 pub record Asked : Type 0 where
   pub geometry : Geometry
-  pub from1 : Float
-  pub first1 : Cut
-  pub rest1 : List Cut
-  pub from2 : Float
-  pub first2 : Cut
-  pub rest2 : List Cut
+  pub lo1 : Float
+  pub hi1 : Float
+  pub cuts1 : List Cut
+  pub lo2 : Float
+  pub hi2 : Float
+  pub cuts2 : List Cut
   pub gap : Float
   pub quota : ℕ
   pub width1 : ℕ
@@ -43,17 +31,17 @@ abbrev pub shape : Asked → Shape
 shape q = floats (q .geometry) (q .gap)
 
 abbrev pub pieces1 : Asked → List Piece
-pieces1 q = piecesFrom (q .from1) (q .first1 ∷ q .rest1)
+pieces1 q = piecesFrom (q .lo1) (q .cuts1)
 
 abbrev pub pieces2 : Asked → List Piece
-pieces2 q = piecesFrom (q .from2) (q .first2 ∷ q .rest2)
+pieces2 q = piecesFrom (q .lo2) (q .cuts2)
 
 -- a station in the asked range of a line
 abbrev pub In1 : Asked → Float → Type 0
-In1 q s = InRange (q .from1) (endFrom (q .from1) (q .first1 ∷ q .rest1)) s
+In1 q s = InRange (q .lo1) (q .hi1) s
 
 abbrev pub In2 : Asked → Float → Type 0
-In2 q t = InRange (q .from2) (endFrom (q .from2) (q .first2 ∷ q .rest2)) t
+In2 q t = InRange (q .lo2) (q .hi2) t
 
 abbrev pub pushedPairs : (q : Asked) → List (Node (shape q))
 pushedPairs q = pushed (shape q) (pieces1 q) (pieces2 q)

@@ -1,0 +1,9 @@
+pub mod Reflect
+pub mod Rows
+pub mod Sizes
+pub mod Admission
+pub mod Cover
+pub mod Questions
+pub mod Climbs
+pub mod Spans
+pub mod Stars

@@ -1,0 +1,148 @@
+-- Numbers 15 to 18: `ask`, on two admitted lines, answers a number and a line when, and only when, that row of the table is the first that the question meets. Assumes nothing.
+use mathlib.Core.Path.{_≡_, refl, sym, ap, _∙_}
+use mathlib.Core.Logic.{_⊎_, inl, inr}
+use mathlib.Core.Bool.{Bool, true, false, cond, not}
+use mathlib.Core.List.{List, [], _∷_}
+use Prim.Native.Nat.{ℕ, _^_, _<_}
+use native.Mathlib.Omega.{arith}
+use lib.Dec.{T, ltb, lit<}
+use lib.Ieee.{Float, lt, le}
+use Rattle.lists.specs.Tests.{eachTwo}
+use Rattle.floats.specs.Floats.{zero64, within, middle}
+use Rattle.floats.specs.Sizes.{Within}
+use Rattle.lines.specs.declared.Admission.the-variants.{Admitted}
+use Rattle.lines.specs.Admit.{two24}
+use Rattle.knots.specs.Knots.{breaksOf}
+use Rattle.questions.specs.declared.Asked.{Asked}
+use Rattle.questions.specs.declared.Asked.the-variants.{Fine, RangeOutOfBounds, GapOutOfRange, TooManySplits, BreaksTooClose}
+use Rattle.questions.specs.Questions.{askedNumber, askedLine, rangeFits, parted, askWithin}
+use Rattle.facts.specs.Faults.{Line, admission, bounds, Finite, Question, Fault15, Fault16, Fault17, Fault18, QuestionFault, Earlier, asked, askedPlace, FirstQuestionFault}
+use Rattle.facts.proofs.Reflect.{Tests, is-true, as-true, never, both, of-T, of-lt, of-not, of-both, of-two, same}
+use Rattle.facts.proofs.Sizes.{of-range, within-finite}
+use Rattle.facts.proofs.Cover.{range-fine}
+use Rattle.facts.proofs.Rows.{firstRow, Met, InOrder, Apart, first-met, met-first, none-met, met-none, row, of-row}
+
+six : (a b c d e f : Bool)
+    → _≡_ {A = ℕ × ℕ} (
+      askedNumber (cond a (RangeOutOfBounds 1) (cond b (RangeOutOfBounds 2) (cond c GapOutOfRange (cond d TooManySplits (cond e (BreaksTooClose 1) (cond f (BreaksTooClose 2) Fine)))))),
+      askedLine (cond a (RangeOutOfBounds 1) (cond b (RangeOutOfBounds 2) (cond c GapOutOfRange (cond d TooManySplits (cond e (BreaksTooClose 1) (cond f (BreaksTooClose 2) Fine)))))),
+    )
+    (firstRow (0, 0) (((15, 1), a) ∷ ((15, 2), b) ∷ ((16, 0), c) ∷ ((17, 0), d) ∷ ((18, 1), e) ∷ ((18, 2), f) ∷ []))
+six true b c d e f = refl
+six false true c d e f = refl
+six false false true d e f = refl
+six false false false true e f = refl
+six false false false false true f = refl
+six false false false false false true = refl
+six false false false false false false = refl
+
+rows : Question → List ((ℕ × ℕ) × Bool)
+rows q =
+    ((15, 1), not (rangeFits (bounds (q .line1)) (q .lo1) (q .hi1))) ∷ ((15, 2), not (rangeFits (bounds (q .line2)) (q .lo2) (q .hi2)))
+    ∷ ((16, 0), not (within zero64 two24 (q .gap))) ∷ ((17, 0), ltb 256 (q .splits))
+    ∷ ((18, 1), not (eachTwo parted (breaksOf (q .lo1) (q .hi1) (q .line1 .knots)))) ∷ ((18, 2), not (eachTwo parted (breaksOf (q .lo2) (q .hi2) (q .line2 .knots)))) ∷ []
+
+number : (q : Question) → askedPlace q ≡ firstRow (0, 0) (rows q)
+unfolding rows askWithin
+number q =
+    six (not (rangeFits (bounds (q .line1)) (q .lo1) (q .hi1))) (not (rangeFits (bounds (q .line2)) (q .lo2) (q .hi2))) (not (within zero64 two24 (q .gap))) (ltb 256 (q .splits))
+    (not (eachTwo parted (breaksOf (q .lo1) (q .hi1) (q .line1 .knots)))) (not (eachTwo parted (breaksOf (q .lo2) (q .hi2) (q .line2 .knots))))
+
+-- ---- each test decides its row's sentence
+decide : (b : Bool) → T b ⊎ (T b → ⊥)
+decide true = inl tt
+decide false = inr (λ x. x)
+
+test15 : (l : Line) (lo hi : Float) → admission l ≡ Admitted → Tests (Fault15 l lo hi) (not (rangeFits (bounds l) lo hi))
+unfolding rangeFits
+test15 l lo hi ok = same to from (of-not (rangeFits (bounds l) lo hi) inside)
+  where
+    inside : Tests (T (lt lo hi) × (T (le (bounds l .lo) lo) × T (le hi (bounds l .hi)))) (rangeFits (bounds l) lo hi)
+    inside =
+        of-both (lt lo hi) (cond (le (bounds l .lo) lo) (le hi (bounds l .hi)) false) (of-T (lt lo hi))
+        (of-both (le (bounds l .lo) lo) (le hi (bounds l .hi)) (of-T (le (bounds l .lo) lo)) (of-T (le hi (bounds l .hi))))
+
+    to : (T (lt lo hi) × (T (le (bounds l .lo) lo) × T (le hi (bounds l .hi))) → ⊥) → Fault15 l lo hi
+    to h =
+        elim (decide (lt lo hi)) [
+          | inl x ↦ elim (decide (le (bounds l .lo) lo)) [
+            | inl y ↦ elim (decide (le hi (bounds l .hi))) [ inl z ↦ absurd (h (x, (y, z))) | inr n ↦ inr (inr (inr (inr n))) ]
+            | inr n ↦ inr (inr (inr (inl n)))
+          ]
+          | inr n ↦ inr (inr (inl n))
+        ]
+
+    from : Fault15 l lo hi → T (lt lo hi) × (T (le (bounds l .lo) lo) × T (le hi (bounds l .hi))) → ⊥
+    from (inl n) t = n (within-finite (2 ^ 20) lo (range-fine l lo hi ok (inside .holds t) .0))
+    from (inr (inl n)) t = n (within-finite (2 ^ 20) hi (range-fine l lo hi ok (inside .holds t) .1))
+    from (inr (inr (inl n))) t = n (t .0)
+    from (inr (inr (inr (inl n)))) t = n (t .1 .0)
+    from (inr (inr (inr (inr n)))) t = n (t .1 .1)
+
+test16 : (gap : Float) → Tests (Fault16 gap) (not (within zero64 two24 gap))
+test16 gap = of-not (within zero64 two24 gap) (of-range zero64 two24 gap)
+
+test18 : (l : Line) (lo hi : Float) → Tests (Fault18 l lo hi) (not (eachTwo parted (breaksOf lo hi (l .knots))))
+unfolding parted
+test18 l lo hi =
+    of-two (λ t0 t1. T (lt t0 (middle t0 t1)) × T (lt (middle t0 t1) t1) → ⊥) parted
+    (λ t0 t1. of-not (parted t0 t1) (of-both (lt t0 (middle t0 t1)) (lt (middle t0 t1) t1) (of-T (lt t0 (middle t0 t1))) (of-T (lt (middle t0 t1) t1)))) (breaksOf lo hi (l .knots))
+
+-- ---- the order of the places
+irreflexive : (k : ℕ × ℕ) → Earlier k k → ⊥
+irreflexive k (inl h) = omega arith
+irreflexive k (inr h) = omega arith
+
+transitive : (a b c : ℕ × ℕ) → Earlier a b → Earlier b c → Earlier a c
+transitive a b c (inl h) (inl g) = inl (omega arith)
+transitive a b c (inl h) (inr g) = inl (omega arith)
+transitive a b c (inr h) (inl g) = inl (omega arith)
+transitive a b c (inr h) (inr g) = inr (omega arith, omega arith)
+
+in-order : (q : Question) → InOrder Earlier (rows q)
+unfolding rows
+in-order q = (inr (refl, lit< tt), (inl (lit< tt), (inl (lit< tt), (inl (lit< tt), (inr (refl, lit< tt), tt)))))
+
+some-number : (n : ℕ) (k : ℕ × ℕ) → 0 < n → k .0 ≡ n → k ≡ (0, 0) → ⊥
+some-number n k h e f = let z : k .0 ≡ 0 = ap (λ p. p .0) f in omega arith
+
+apart : (q : Question) → Apart (0, 0) (rows q)
+unfolding rows
+apart q =
+    (some-number 15 _ (lit< tt) refl, (some-number 15 _ (lit< tt) refl, (some-number 16 _ (lit< tt) refl, (some-number 17 _ (lit< tt) refl, (some-number 18 _ (lit< tt) refl, (some-number 18 _ (lit< tt) refl, tt))))))
+
+fine-place : (a : Asked) → _≡_ {A = ℕ × ℕ} (askedNumber a, askedLine a) (0, 0) → a ≡ Fine
+fine-place Fine e = refl
+fine-place (RangeOutOfBounds i) e = let z : _≡_ {A = ℕ} 15 0 = ap (λ p. p .0) e in absurd (omega arith)
+fine-place GapOutOfRange e = let z : _≡_ {A = ℕ} 16 0 = ap (λ p. p .0) e in absurd (omega arith)
+fine-place TooManySplits e = let z : _≡_ {A = ℕ} 17 0 = ap (λ p. p .0) e in absurd (omega arith)
+fine-place (BreaksTooClose i) e = let z : _≡_ {A = ℕ} 18 0 = ap (λ p. p .0) e in absurd (omega arith)
+
+module _ (q : Question) (ok1 : admission (q .line1) ≡ Admitted) (ok2 : admission (q .line2) ≡ Admitted) where
+  met : (n : ℕ × ℕ) → QuestionFault n q → Met n (rows q)
+  unfolding rows
+  met n =
+      row (test15 (q .line1) (q .lo1) (q .hi1) ok1) (row (test15 (q .line2) (q .lo2) (q .hi2) ok2) (row (test16 (q .gap)) (row (of-lt 256 (q .splits)) (row (test18 (q .line1) (q .lo1) (q .hi1))
+      (λ x. inl (x .0, test18 (q .line2) (q .lo2) (q .hi2) .holds (x .1)))))))
+
+  of-met : (n : ℕ × ℕ) → Met n (rows q) → QuestionFault n q
+  unfolding rows
+  of-met n =
+      of-row (test15 (q .line1) (q .lo1) (q .hi1) ok1) (of-row (test15 (q .line2) (q .lo2) (q .hi2) ok2) (of-row (test16 (q .gap)) (of-row (of-lt 256 (q .splits)) (of-row (test18 (q .line1) (q .lo1) (q .hi1))
+      (λ s. elim s [ inl x ↦ (x .0, test18 (q .line2) (q .lo2) (q .hi2) .yes (x .1)) | inr y ↦ absurd y ])))))
+
+  -- ---- the theorem, for a refusal
+  pub refused : (n : ℕ × ℕ) → 0 < n .0 → askedPlace q ≡ n → FirstQuestionFault n q
+  refused n h e =
+      let m = first-met Earlier irreflexive transitive (0, 0) (rows q) n (in-order q) (some-number (n .0) n h refl) (sym (number q) ∙ e) in
+      (of-met n (m .0), λ k lt f. m .1 k lt (met k f))
+
+  pub refuses : (n : ℕ × ℕ) → FirstQuestionFault n q → askedPlace q ≡ n
+  refuses n f = number q ∙ met-first Earlier irreflexive transitive (0, 0) (rows q) n (in-order q) (met n (f .0)) (λ k lt m. f .1 k lt (of-met k m))
+
+  -- ---- and for a question that is fine
+  pub passes : asked q ≡ Fine → (n : ℕ × ℕ) → QuestionFault n q → ⊥
+  passes e n f = none-met Earlier irreflexive transitive (0, 0) (rows q) (apart q) (sym (number q) ∙ ap (λ a. (askedNumber a, askedLine a)) e) n (met n f)
+
+  pub passed : ((n : ℕ × ℕ) → QuestionFault n q → ⊥) → asked q ≡ Fine
+  passed h = fine-place (asked q) (number q ∙ met-none Earlier irreflexive transitive (0, 0) (rows q) (λ k m. h k (of-met k m)))

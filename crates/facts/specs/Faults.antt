@@ -1,0 +1,155 @@
+-- Document 01's table in its own words, numbers 4 to 18: what a line or a question meets. Definitions only.
+use mathlib.Core.Path.{_≡_}
+use mathlib.Core.Logic.{_⊎_}
+use mathlib.Core.List.{List, [], _∷_}
+use Prim.Native.Nat.{ℕ, _+_, _-_, _/_, _%_, _^_, _<_}
+use lib.Dec.{T}
+use lib.ListN.{length, getD}
+use lib.Ieee.{Float, nan, inf, fin, le, lt}
+use Rattle.lists.specs.Members.{Any}
+use Rattle.lists.specs.Tests.{total}
+use Rattle.floats.specs.Floats.{zero64, middle}
+use Rattle.floats.specs.Sizes.{Within}
+use Rattle.points.specs.declared.Interval.{Interval}
+use Rattle.lines.specs.declared.Admission.{Admission}
+use Rattle.lines.specs.Admit.{one1024th, two10, two24, inner, admissionNumber, admitOf}
+use Rattle.knots.specs.Knots.{boundsOf, breaksOf}
+use Rattle.questions.specs.declared.Asked.{Asked}
+use Rattle.questions.specs.Questions.{askedNumber, askedLine, askOf}
+
+-- some two neighbours are related
+abbrev pub AnyTwo : {A : Type 0} → (A → A → Type 0) → List A → Type 0
+AnyTwo R [] = ⊥
+AnyTwo R (x ∷ []) = ⊥
+AnyTwo R (x ∷ y ∷ l) = R x y ⊎ AnyTwo R (y ∷ l)
+
+-- no infinity and no NaN
+abbrev pub Finite : Float → Type 0
+Finite nan = ⊥
+Finite (inf s) = ⊥
+Finite (fin s m e) = Unit {0}
+
+-- a line as it comes to `admit`
+pub record Line : Type 0 where
+  pub degree : ℕ
+  pub knots : List Float
+  pub mults : List ℕ
+  pub coords : List Float
+  pub weights : List Float
+
+-- three coordinates a pole
+abbrev pub poles : Line → ℕ
+poles l = length (l .coords) / 3
+
+-- 4: degree isn't 1 to 25
+abbrev pub Fault4 : Line → Type 0
+Fault4 l = (l .degree < 1) ⊎ (25 < l .degree)
+
+-- 5: fewer than 2 or over 128 distinct knots, or as many multiplicities don't come
+abbrev pub Fault5 : Line → Type 0
+Fault5 l = (length (l .knots) < 2) ⊎ ((128 < length (l .knots)) ⊎ (length (l .mults) ≡ length (l .knots) → ⊥))
+
+-- 6: a knot isn't finite or is beyond ±2^20
+abbrev pub Fault6 : Line → Type 0
+Fault6 l = Any (λ k. Within (2 ^ 20) k → ⊥) (l .knots)
+
+-- 7: a knot is not above the one before
+abbrev pub Fault7 : Line → Type 0
+Fault7 l = AnyTwo (λ before k. T (lt before k) → ⊥) (l .knots)
+
+-- 8: an end multiplicity is over degree + 1, or an inner one over degree
+abbrev pub Fault8 : Line → Type 0
+Fault8 l = (l .degree + 1 < getD (l .mults) 0 0) ⊎ ((l .degree + 1 < getD (l .mults) (length (l .mults) - 1) 0) ⊎ Any (λ m. l .degree < m) (inner (l .mults)))
+
+-- 9: a multiplicity is 0
+abbrev pub Fault9 : Line → Type 0
+Fault9 l = Any (λ m. m ≡ 0) (l .mults)
+
+-- 10: coordinates are no multiple of 3, or poles ≠ sum of multiplicities − degree − 1
+abbrev pub Fault10 : Line → Type 0
+Fault10 l = (length (l .coords) % 3 ≡ 0 → ⊥) ⊎ (poles l + l .degree + 1 ≡ total (l .mults) → ⊥)
+
+-- 11: poles are fewer than degree + 1 or over 128
+abbrev pub Fault11 : Line → Type 0
+Fault11 l = (poles l < l .degree + 1) ⊎ (128 < poles l)
+
+-- 12: there are weights, but not one a pole
+abbrev pub Fault12 : Line → Type 0
+Fault12 l = (length (l .weights) ≡ 0 → ⊥) × (length (l .weights) ≡ poles l → ⊥)
+
+-- 13: a weight isn't from 2^−10 to 2^10
+abbrev pub Fault13 : Line → Type 0
+Fault13 l = Any (λ w. T (le one1024th w) × T (le w two10) → ⊥) (l .weights)
+
+-- 14: a coordinate isn't within ±2^24
+abbrev pub Fault14 : Line → Type 0
+Fault14 l = Any (λ x. Within (2 ^ 24) x → ⊥) (l .coords)
+
+-- the line meets the table's row of number n
+abbrev pub LineFault : ℕ → Line → Type 0
+LineFault n l =
+    ((4 ≡ n) × Fault4 l) ⊎ (((5 ≡ n) × Fault5 l) ⊎ (((6 ≡ n) × Fault6 l) ⊎ (((7 ≡ n) × Fault7 l) ⊎ (((8 ≡ n) × Fault8 l) ⊎ (((9 ≡ n) × Fault9 l)
+    ⊎ (((10 ≡ n) × Fault10 l) ⊎ (((11 ≡ n) × Fault11 l) ⊎ (((12 ≡ n) × Fault12 l) ⊎ (((13 ≡ n) × Fault13 l) ⊎ ((14 ≡ n) × Fault14 l))))))))))
+
+-- what `admit` answers
+abbrev pub admission : Line → Admission
+admission l = admitOf (l .degree) (l .knots) (l .mults) (l .coords) (l .weights)
+
+-- the first row that the line meets has number n
+abbrev pub FirstLineFault : ℕ → Line → Type 0
+FirstLineFault n l = LineFault n l × ((k : ℕ) → k < n → LineFault k l → ⊥)
+
+-- a question about two lines
+pub record Question : Type 0 where
+  pub line1 : Line
+  pub lo1 : Float
+  pub hi1 : Float
+  pub line2 : Line
+  pub lo2 : Float
+  pub hi2 : Float
+  pub gap : Float
+  pub splits : ℕ
+
+abbrev pub bounds : Line → Interval
+bounds l = boundsOf (l .degree) (l .knots) (l .mults)
+
+-- 15: a range isn't finite, lo ≥ hi (a NaN is no number below another), or it leaves the line's bounds
+abbrev pub Fault15 : Line → Float → Float → Type 0
+Fault15 l lo hi =
+    (Finite lo → ⊥) ⊎ ((Finite hi → ⊥) ⊎ ((T (lt lo hi) → ⊥) ⊎ ((T (le (bounds l .lo) lo) → ⊥) ⊎ (T (le hi (bounds l .hi)) → ⊥))))
+
+-- 16: the gap isn't from 0 to 2^24
+abbrev pub Fault16 : Float → Type 0
+Fault16 gap = T (le zero64 gap) × T (le gap two24) → ⊥
+
+-- 17: splits per pair, S, is over 256
+abbrev pub Fault17 : ℕ → Type 0
+Fault17 splits = 256 < splits
+
+-- 18: two neighbouring breaks t0, t1 lack t0 < 0.5 × (t0 + t1) < t1
+abbrev pub Fault18 : Line → Float → Float → Type 0
+Fault18 l lo hi = AnyTwo (λ t0 t1. T (lt t0 (middle t0 t1)) × T (lt (middle t0 t1) t1) → ⊥) (breaksOf lo hi (l .knots))
+
+-- the question meets the row of this number and line (0 where it is no line's)
+abbrev pub QuestionFault : ℕ × ℕ → Question → Type 0
+QuestionFault n q =
+    (((15, 1) ≡ n) × Fault15 (q .line1) (q .lo1) (q .hi1)) ⊎ ((((15, 2) ≡ n) × Fault15 (q .line2) (q .lo2) (q .hi2))
+    ⊎ ((((16, 0) ≡ n) × Fault16 (q .gap)) ⊎ ((((17, 0) ≡ n) × Fault17 (q .splits))
+    ⊎ ((((18, 1) ≡ n) × Fault18 (q .line1) (q .lo1) (q .hi1)) ⊎ (((18, 2) ≡ n) × Fault18 (q .line2) (q .lo2) (q .hi2))))))
+
+-- a smaller number, or the same of the first line
+abbrev pub Earlier : ℕ × ℕ → ℕ × ℕ → Type 0
+Earlier m n = (m .0 < n .0) ⊎ ((m .0 ≡ n .0) × (m .1 < n .1))
+
+-- what `ask` answers
+abbrev pub asked : Question → Asked
+asked q =
+    askOf (q .line1 .degree) (q .line1 .knots) (q .line1 .mults) (q .lo1) (q .hi1)
+    (q .line2 .degree) (q .line2 .knots) (q .line2 .mults) (q .lo2) (q .hi2) (q .gap) (q .splits)
+
+abbrev pub askedPlace : Question → ℕ × ℕ
+askedPlace q = (askedNumber (asked q), askedLine (asked q))
+
+-- the first row that the question meets is this one
+abbrev pub FirstQuestionFault : ℕ × ℕ → Question → Type 0
+FirstQuestionFault n q = QuestionFault n q × ((k : ℕ × ℕ) → Earlier k n → QuestionFault k q → ⊥)

@@ -1,0 +1,1 @@
+// Theorems on admission, questions and pieces, for whoever relies on them. No code.

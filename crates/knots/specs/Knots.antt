@@ -1,0 +1,58 @@
+-- A line's flat knots and bounds, its homogeneous poles, and the breaks of an asked range. Definitions only.
+use Prim.Native.Nat.{ℕ, zero, suc, _+_, _-_, _*_}
+use mathlib.Core.Bool.{Bool, false, cond}
+use mathlib.Core.List.{List, [], _∷_}
+use lib.ListN.{getD, length}
+use lib.Dec.{ltb}
+use lib.Ieee.{Float, binary64, mul, lt, nan}
+use Rattle.lists.specs.Tests.{total}
+use Rattle.floats.specs.Floats.{one64}
+use Rattle.points.specs.declared.Point4D.{Point4D}
+use Rattle.points.specs.declared.Interval.{Interval}
+
+-- k, n times, before l
+unfoldable pub repeated : ℕ → Float → List Float → List Float
+repeated zero k l = l
+repeated (suc n) k l = k ∷ repeated n k l
+
+-- `flat_knots`: each knot as often as its multiplicity says (the knot vector U of The NURBS Book)
+unfoldable pub flatKnots : List Float → List ℕ → List Float
+flatKnots (k ∷ ks) (m ∷ ms) = repeated m k (flatKnots ks ms)
+flatKnots [] ms = []
+flatKnots (k ∷ ks) [] = []
+
+-- `KnotVector::bounds`: flat knots number degree and number poles, counted from 0
+unfoldable pub boundsOf : ℕ → List Float → List ℕ → Interval
+boundsOf degree knots mults = record { lo = getD (flatKnots knots mults) degree nan; hi = getD (flatKnots knots mults) (total mults - degree - 1) nan }
+
+-- weight i, and 1 where there is none: no weights means every weight is 1
+unfoldable pub weightOf : List Float → ℕ → Float
+weightOf weights i = cond (ltb i (length weights)) (getD weights i nan) one64
+
+-- `Poles::homogeneous`: pole i as x w, y w, z w, w
+unfoldable pub homogeneousOf : List Float → List Float → ℕ → Point4D
+homogeneousOf coords weights i = record {
+  x = mul binary64 (getD coords (3 * i) nan) (weightOf weights i);
+  y = mul binary64 (getD coords (3 * i + 1) nan) (weightOf weights i);
+  z = mul binary64 (getD coords (3 * i + 2) nan) (weightOf weights i);
+  w = weightOf weights i;
+}
+
+-- n poles from pole i on, four numbers each
+unfoldable pub homogeneousPoles : List Float → List Float → ℕ → ℕ → List Float
+homogeneousPoles coords weights zero i = []
+homogeneousPoles coords weights (suc n) i =
+    homogeneousOf coords weights i .x ∷ homogeneousOf coords weights i .y ∷ homogeneousOf coords weights i .z ∷ homogeneousOf coords weights i .w ∷ homogeneousPoles coords weights n (suc i)
+
+-- strictly between: the filter of `CurvePieces::new`
+unfoldable pub inside : Float → Float → Float → Bool
+inside lo hi k = cond (lt lo k) (lt k hi) false
+
+-- the knots strictly between, then l
+unfoldable pub between : Float → Float → List Float → List Float → List Float
+between lo hi [] l = l
+between lo hi (k ∷ ks) l = cond (inside lo hi k) (k ∷ between lo hi ks l) (between lo hi ks l)
+
+-- the breaks of `CurvePieces::new`: lo, each knot strictly between, hi
+abbrev pub breaksOf : Float → Float → List Float → List Float
+breaksOf lo hi knots = lo ∷ between lo hi knots (hi ∷ [])

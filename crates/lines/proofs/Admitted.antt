@@ -1,0 +1,88 @@
+-- What admission gives: no test of the chain was met. Assumes nothing.
+use mathlib.Core.Path.{_≡_, refl, sym, ap, _∙_, subst}
+use mathlib.Core.Bool.{Bool, true, false, cond, not, _||_}
+use mathlib.Core.List.{List, [], _∷_}
+use Prim.Native.Nat.{ℕ, _≤_, _+_}
+use native.Mathlib.Omega.{arith}
+use borrow.Author.Tests.{ltb-false, eqb-true, not-false}
+use denote.Enum.Declared.{tagOf}
+use types.Run.{OneOf, miss}
+use lib.ListN.{length}
+use lib.Ieee.{Float}
+use Rattle.lists.specs.Tests.{total}
+use Rattle.lines.proofs.Admission as declared
+use Rattle.lines.specs.declared.Admission.{Admission}
+use Rattle.lines.specs.declared.Admission.the-variants.{Admitted, InvalidDegree, KnotCount, KnotOutOfRange, KnotsNotIncreasing, MultiplicityTooLarge, ZeroMultiplicity, PoleCountMismatch, PoleCountOutOfRange, WeightCountMismatch, WeightOutOfRange, CoordinateOutOfRange}
+use Rattle.lines.specs.Admit.{degreeOut, knotCountOut, tooLarge, validateDirection, validatePoles, admitOf}
+use Rattle.lines.specs.Counts.{Counts}
+use Rattle.lines.proofs.Laws.{pass, refusal}
+
+-- ---- neither of two tests was met
+neither : (a b : Bool) → (a || b) ≡ false → (a ≡ false) × (b ≡ false)
+neither true b e = let z : _≡_ {A = ℕ} 0 1 = cc in absurd (omega arith)
+neither false b e = (refl, e)
+
+-- ---- what `let Admission::Admitted = d else` tells its else branch: some other case
+pub not-admitted : (d : Admission) → OneOf (1 ∷ 2 ∷ 3 ∷ 4 ∷ 5 ∷ 6 ∷ 7 ∷ 8 ∷ 9 ∷ 10 ∷ 11 ∷ []) (tagOf declared.the-type d) → d ≡ Admitted → ⊥
+not-admitted d k e =
+    miss (1 ∷ 2 ∷ 3 ∷ 4 ∷ 5 ∷ 6 ∷ 7 ∷ 8 ∷ 9 ∷ 10 ∷ 11 ∷ []) 0 tt
+    (subst (λ (x : Admission). OneOf (1 ∷ 2 ∷ 3 ∷ 4 ∷ 5 ∷ 6 ∷ 7 ∷ 8 ∷ 9 ∷ 10 ∷ 11 ∷ []) (tagOf declared.the-type x)) e k)
+
+-- ---- the first half gives the limits that the second half asks
+pub few : (degree : ℕ) (knots : List Float) (mults : List ℕ) (next : Admission) → validateDirection degree knots mults next ≡ Admitted → (degree ≤ 25) × (length mults ≤ 128)
+unfolding validateDirection
+few degree knots mults next e =
+    let a4 = pass (degreeOut degree) InvalidDegree _ (refusal InvalidDegree 3 refl) e in
+    let a5 = pass (knotCountOut knots mults) KnotCount _ (refusal KnotCount 4 refl) (a4 .1) in
+    let b4 = neither _ _ (a4 .0) in
+    let b5 = neither _ _ (a5 .0) in
+    let c5 = neither _ _ (b5 .0) in
+    let least : 1 ≤ degree = ltb-false _ _ (b4 .0) in
+    let two : 2 ≤ length knots = ltb-false _ _ (c5 .0) in
+    let most : degree ≤ 25 = ltb-false _ _ (b4 .1) in
+    let many : length knots ≤ 128 = ltb-false _ _ (c5 .1) in
+    let same : length mults ≡ length knots = eqb-true _ _ (not-false _ (b5 .1)) in
+    (most, omega arith)
+
+-- ---- all the tests
+pub counts : (degree : ℕ) (knots : List Float) (mults : List ℕ) (coords weights : List Float) → admitOf degree knots mults coords weights ≡ Admitted → Counts degree knots mults coords weights
+unfolding validateDirection validatePoles tooLarge
+counts degree knots mults coords weights e =
+    let a4 = pass _ InvalidDegree _ (refusal InvalidDegree 3 refl) e in
+    let a5 = pass _ KnotCount _ (refusal KnotCount 4 refl) (a4 .1) in
+    let a6 = pass _ KnotOutOfRange _ (refusal KnotOutOfRange 5 refl) (a5 .1) in
+    let a7 = pass _ KnotsNotIncreasing _ (refusal KnotsNotIncreasing 6 refl) (a6 .1) in
+    let a8 = pass _ MultiplicityTooLarge _ (refusal MultiplicityTooLarge 7 refl) (a7 .1) in
+    let a9 = pass _ ZeroMultiplicity _ (refusal ZeroMultiplicity 8 refl) (a8 .1) in
+    let a10 = pass _ PoleCountMismatch _ (refusal PoleCountMismatch 9 refl) (a9 .1) in
+    let a11 = pass _ PoleCountOutOfRange _ (refusal PoleCountOutOfRange 10 refl) (a10 .1) in
+    let a12 = pass _ WeightCountMismatch _ (refusal WeightCountMismatch 11 refl) (a11 .1) in
+    let a13 = pass _ WeightOutOfRange _ (refusal WeightOutOfRange 12 refl) (a12 .1) in
+    let a14 = pass _ CoordinateOutOfRange _ (refusal CoordinateOutOfRange 13 refl) (a13 .1) in
+    let b4 = neither _ _ (a4 .0) in
+    let b5 = neither _ _ (a5 .0) in
+    let c5 = neither _ _ (b5 .0) in
+    let b8 = neither _ _ (a8 .0) in
+    let c8 = neither _ _ (b8 .0) in
+    let b10 = neither _ _ (a10 .0) in
+    let b11 = neither _ _ (a11 .0) in
+    record {
+      least = ltb-false _ _ (b4 .0);
+      most = ltb-false _ _ (b4 .1);
+      two-knots = ltb-false _ _ (c5 .0);
+      few-knots = ltb-false _ _ (c5 .1);
+      as-many = eqb-true _ _ (not-false _ (b5 .1));
+      knots-fit = not-false _ (a6 .0);
+      increasing = not-false _ (a7 .0);
+      first-mult = ltb-false _ _ (c8 .0);
+      last-mult = ltb-false _ _ (c8 .1);
+      inner-mults = not-false _ (b8 .1);
+      some-mults = not-false _ (a9 .0);
+      thirds = eqb-true _ _ (not-false _ (b10 .0));
+      count = eqb-true _ _ (not-false _ (b10 .1));
+      enough = ltb-false _ _ (b11 .0);
+      few-poles = ltb-false _ _ (b11 .1);
+      weights-count = not-false _ (a12 .0);
+      weights-fit = not-false _ (a13 .0);
+      coords-fit = not-false _ (a14 .0);
+    }

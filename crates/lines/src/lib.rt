@@ -1,0 +1,210 @@
+// Admission of a line: the table's numbers 4 to 14, in its order.
+ghost use mathlib.Core.Path.{_≡_};
+ghost use mathlib.Core.Bool.{_||_};
+ghost use Prim.Native.Nat.{_≤_, _<_};
+ghost use lib.Dec.{ltb, leb, eqb};
+ghost use lib.Ieee.{lt};
+ghost use lib.ListN.{length};
+ghost use Rattle.lists.specs.Tests.{every, eachTwo, total};
+ghost use Rattle.floats.specs.Floats.{within};
+ghost use Rattle.lines.specs.declared.Admission.the-variants.{Admitted};
+ghost use Rattle.lines.specs.Admit.{tooLarge, validateDirection, validatePoles, admitOf};
+
+// Why a line is refused, or that it isn't. `BSplineConstructionError` names five of the cases.
+pub enum Admission {
+    Admitted,
+    InvalidDegree,
+    KnotCount,
+    KnotOutOfRange,
+    KnotsNotIncreasing,
+    MultiplicityTooLarge,
+    ZeroMultiplicity,
+    PoleCountMismatch,
+    PoleCountOutOfRange,
+    WeightCountMismatch,
+    WeightOutOfRange,
+    CoordinateOutOfRange,
+}
+
+fn all_within(s: &[f64], lo: f64, hi: f64) -> bool
+    ensures { λ r. ⌜ r ≡ every (within lo hi) (now (s .entry)) ⌝ }
+{
+    let mut i = 0;
+    while i < s.len() {
+        if floats::is_within(lo, hi, s[i]) {
+            i += 1;
+        } else {
+            return false;
+        }
+    }
+    true
+}
+
+fn increasing(s: &[f64]) -> bool
+    requires { ⌜ 1 ≤ length (now s) ⌝ }
+    ensures { λ r. ⌜ r ≡ eachTwo lt (now (s .entry)) ⌝ }
+{
+    let mut i = 0;
+    while i < s.len() - 1 {
+        if s[i] < s[i + 1] {
+            i += 1;
+        } else {
+            return false;
+        }
+    }
+    true
+}
+
+fn all_at_most(s: &[u32], most: u32) -> bool
+    ensures { λ r. ⌜ r ≡ every (λ m. leb m most) (now (s .entry)) ⌝ }
+{
+    let mut i = 0;
+    while i < s.len() {
+        if s[i] <= most {
+            i += 1;
+        } else {
+            return false;
+        }
+    }
+    true
+}
+
+fn all_positive(s: &[u32]) -> bool
+    ensures { λ r. ⌜ r ≡ every (λ m. ltb 0 m) (now (s .entry)) ⌝ }
+{
+    let mut i = 0;
+    while i < s.len() {
+        if s[i] > 0 {
+            i += 1;
+        } else {
+            return false;
+        }
+    }
+    true
+}
+
+fn wide(x: u32) -> u64
+    ensures { λ r. ⌜ (r ≡ x) × (r < 4294967296) ⌝ }
+{
+    x as u64
+}
+
+// The sum of the multiplicities: 128 of 32 bits each fit.
+fn sum(s: &[u32]) -> u64
+    requires { ⌜ length (now s) ≤ 128 ⌝ }
+    ensures { λ r. ⌜ r ≡ total (now (s .entry)) ⌝ }
+{
+    let mut t: u64 = 0;
+    let mut i = 0;
+    while i < s.len() {
+        t += wide(s[i]);
+        i += 1;
+    }
+    t
+}
+
+// Whether an end multiplicity is over degree + 1, or an inner one over the degree.
+fn too_large(degree: u32, mults: &[u32]) -> bool
+    requires { ⌜ (degree ≤ 25) × (2 ≤ length (now mults)) ⌝ }
+    ensures { λ r. ⌜ r ≡ tooLarge degree (now (mults .entry)) ⌝ }
+{
+    let last = mults.len() - 1;
+    if mults[0] > degree + 1 {
+        return true;
+    }
+    if mults[last] > degree + 1 {
+        return true;
+    }
+    !all_at_most(&mults[1..last], degree)
+}
+
+// Numbers 4 to 9, or Admitted.
+fn validate_direction(degree: u32, knots: &[f64], mults: &[u32]) -> Admission
+    ensures { λ r. ⌜ r ≡ validateDirection degree (now (knots .entry)) (now (mults .entry)) Admitted ⌝ }
+{
+    if degree < 1 {
+        return Admission::InvalidDegree;
+    }
+    if degree > 25 {
+        return Admission::InvalidDegree;
+    }
+    if knots.len() < 2 {
+        return Admission::KnotCount;
+    }
+    if knots.len() > 128 {
+        return Admission::KnotCount;
+    }
+    if mults.len() != knots.len() {
+        return Admission::KnotCount;
+    }
+    if !all_within(knots, -1048576.0, 1048576.0) {
+        return Admission::KnotOutOfRange;
+    }
+    if !increasing(knots) {
+        return Admission::KnotsNotIncreasing;
+    }
+    if too_large(degree, mults) {
+        return Admission::MultiplicityTooLarge;
+    }
+    if !all_positive(mults) {
+        return Admission::ZeroMultiplicity;
+    }
+    Admission::Admitted
+}
+
+// Whether there are no weights, or one a pole.
+fn weights_fit(n: usize, poles: usize) -> bool
+    ensures { λ r. ⌜ r ≡ (eqb n 0 || eqb n poles) ⌝ }
+{
+    if n == 0 {
+        return true;
+    }
+    n == poles
+}
+
+// Numbers 10 to 14, or Admitted.
+fn validate_poles(degree: u32, mults: &[u32], coords: &[f64], weights: &[f64]) -> Admission
+    requires { ⌜ (degree ≤ 25) × (length (now mults) ≤ 128) ⌝ }
+    ensures { λ r. ⌜ r ≡ validatePoles degree (now (mults .entry)) (now (coords .entry)) (now (weights .entry)) ⌝ }
+{
+    let poles = coords.len() / 3;
+    if coords.len() % 3 != 0 {
+        return Admission::PoleCountMismatch;
+    }
+    if poles as u64 + degree as u64 + 1 != sum(mults) {
+        return Admission::PoleCountMismatch;
+    }
+    if poles < degree as usize + 1 {
+        return Admission::PoleCountOutOfRange;
+    }
+    if poles > 128 {
+        return Admission::PoleCountOutOfRange;
+    }
+    if !weights_fit(weights.len(), poles) {
+        return Admission::WeightCountMismatch;
+    }
+    if !all_within(weights, 0.0009765625, 1024.0) {
+        return Admission::WeightOutOfRange;
+    }
+    if !all_within(coords, -16777216.0, 16777216.0) {
+        return Admission::CoordinateOutOfRange;
+    }
+    Admission::Admitted
+}
+
+// Whether a line is admitted, and if not, the first fault in the table's order. Any slices at all.
+pub fn admit(
+    degree: u32,
+    knots: &[f64],
+    mults: &[u32],
+    coords: &[f64],
+    weights: &[f64],
+) -> Admission
+    ensures { λ r. ⌜ r ≡ admitOf degree (now (knots .entry)) (now (mults .entry)) (now (coords .entry)) (now (weights .entry)) ⌝ }
+{
+    let direction = validate_direction(degree, knots, mults);
+    let Admission::Admitted = direction else {
+        return direction;
+    };
+    validate_poles(degree, mults, coords, weights)
+}

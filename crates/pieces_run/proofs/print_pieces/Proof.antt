@@ -1,0 +1,58 @@
+-- `print_pieces` lends enough room. Assumes nothing.
+use Prim.Native.Nat.{_≤_}
+use native.Mathlib.Omega.{arith}
+use borrow.Author.Needs.{needs}
+use Rattle.lines.proofs.Admitted.{counts}
+use Rattle.pieces.proofs.Laws as laws
+use Rattle.pieces_run.proofs.print_pieces.Statement.{statement}
+use Rattle.pieces_run.proofs.print_pieces.Tie as tie
+
+piece-count-requires : tie.Need-piece-count-requires
+piece-count-requires c κs = counts (c .before .before .before .before .args .degree) (c .before .before .before .before .args .knots .now) (c .before .before .before .before .args .mults .now) (c .before .before .before .before .args .coords .now) (c .before .before .before .before .args .weights .now) (c .before .before .before .before .pre) .few-knots
+
+net-room-requires : tie.Need-net-room-requires
+net-room-requires c κs = search needs
+
+slice-aggregate-curve-pieces : tie.Need-slice-aggregate-curve-pieces
+slice-aggregate-curve-pieces c = search needs
+
+curve-pieces-requires : tie.Need-curve-pieces-requires
+curve-pieces-requires c κs =
+    let k = counts (c .before .before .before .before .before .before .before .args .degree) (c .before .before .before .before .before .before .before .args .knots .now) (c .before .before .before .before .before .before .before .args .mults .now) (c .before .before .before .before .before .before .before .args .coords .now) (c .before .before .before .before .before .before .before .args .weights .now) (c .before .before .before .before .before .before .before .pre) in
+    let n = c .before .before .piece-count in
+    let s = rw (n .ensures .0) at (laws.small (n .result) (c .before .before .before .before .before .before .before .args .degree) (n .ensures .2) (k .most)) in
+    (c .before .before .before .before .before .before .before .pre, omega (arith, s, c .before .net-room .ensures))
+
+count-requires : tie.Need-count-requires
+count-requires c κs = search needs
+
+add-print-nets : tie.Need-add-print-nets
+add-print-nets c = search needs
+
+slice-aggregate-print-nets : tie.Need-slice-aggregate-print-nets
+slice-aggregate-print-nets c = search needs
+
+print-nets-requires : tie.Need-print-nets-requires
+print-nets-requires c κs =
+    let k = counts (c .before .before .before .before .before .before .before .before .before .before .before .args .degree) (c .before .before .before .before .before .before .before .before .before .before .before .args .knots .now) (c .before .before .before .before .before .before .before .before .before .before .before .args .mults .now) (c .before .before .before .before .before .before .before .before .before .before .before .args .coords .now) (c .before .before .before .before .before .before .before .before .before .before .before .args .weights .now) (c .before .before .before .before .before .before .before .before .before .before .before .pre) in
+    let n = c .before .before .before .before .before .before .piece-count in
+    let d = c .before .count in
+    let m : d .result ≤ 25 = omega (arith, d .ensures, k .most) in
+    (omega arith, n .ensures .2, omega (arith, laws.small (n .result) (d .result) (n .ensures .2) m, c .before .before .before .curve-pieces .kept .1 .1 .1 .1 .1 .1 .1 .0, c .before .before .before .before .before .net-room .ensures))
+
+returns : tie.Need-returns
+returns c = search needs
+
+pub print-pieces-spec : {M : Type 1} → statement M
+print-pieces-spec =
+    tie.close
+    (tie.spec
+    piece-count-requires
+    net-room-requires
+    slice-aggregate-curve-pieces
+    curve-pieces-requires
+    count-requires
+    add-print-nets
+    slice-aggregate-print-nets
+    print-nets-requires
+    returns)

@@ -1,0 +1,28 @@
+-- `ask` calls `ask_within` with both bounds; the counts are those of admitted lines. Assumes nothing.
+use mathlib.Core.Path.{sym}
+use native.Mathlib.Omega.{arith}
+use Rattle.lines.proofs.Admitted.{counts}
+use Rattle.questions.proofs.ask.Statement.{statement}
+use Rattle.questions.proofs.ask.Tie as tie
+
+bounds-requires : tie.Need-bounds-requires
+bounds-requires c κs =
+    let k = counts (c .before .before .before .before .before .before .before .before .args .degree1) (c .before .before .before .before .before .before .before .before .args .knots1 .now) (c .before .before .before .before .before .before .before .before .args .mults1 .now) (c .before .before .before .before .before .before .before .before .args .coords1 .now) (c .before .before .before .before .before .before .before .before .args .weights1 .now) (c .before .before .before .before .before .before .before .before .pre .0) in
+    (k .as-many, omega (arith, k .count), omega (arith, k .count, k .few-poles, k .most))
+
+bounds-requires-2 : tie.Need-bounds-requires-2
+bounds-requires-2 c κs =
+    let k = counts (c .before .before .before .before .before .before .before .before .before .args .degree2) (c .before .before .before .before .before .before .before .before .before .args .knots2 .now) (c .before .before .before .before .before .before .before .before .before .args .mults2 .now) (c .before .before .before .before .before .before .before .before .before .args .coords2 .now) (c .before .before .before .before .before .before .before .before .before .args .weights2 .now) (c .before .before .before .before .before .before .before .before .before .pre .1) in
+    (k .as-many, omega (arith, k .count), omega (arith, k .count, k .few-poles, k .most))
+
+ask-within-requires : tie.Need-ask-within-requires
+ask-within-requires c κs =
+    let k1 = counts (c .before .before .before .before .before .before .before .before .before .before .args .degree1) (c .before .before .before .before .before .before .before .before .before .before .args .knots1 .now) (c .before .before .before .before .before .before .before .before .before .before .args .mults1 .now) (c .before .before .before .before .before .before .before .before .before .before .args .coords1 .now) (c .before .before .before .before .before .before .before .before .before .before .args .weights1 .now) (c .before .before .before .before .before .before .before .before .before .before .pre .0) in
+    let k2 = counts (c .before .before .before .before .before .before .before .before .before .before .args .degree2) (c .before .before .before .before .before .before .before .before .before .before .args .knots2 .now) (c .before .before .before .before .before .before .before .before .before .before .args .mults2 .now) (c .before .before .before .before .before .before .before .before .before .before .args .coords2 .now) (c .before .before .before .before .before .before .before .before .before .before .args .weights2 .now) (c .before .before .before .before .before .before .before .before .before .before .pre .1) in
+    (k1 .few-knots, k2 .few-knots)
+
+returns : tie.Need-returns
+returns c = rw (sym (c .before .before .bounds .ensures), sym (c .before .bounds2 .ensures)) (c .ask-within .ensures)
+
+pub ask-spec : {M : Type 1} → statement M
+ask-spec = tie.close (tie.spec bounds-requires bounds-requires-2 ask-within-requires returns)

@@ -1,0 +1,52 @@
+-- Document 01's table, numbers 15 to 18: what is wrong with a question. Definitions only.
+use Prim.Native.Nat.{ℕ}
+use mathlib.Core.Bool.{Bool, false, cond, not}
+use mathlib.Core.List.{List}
+use lib.Dec.{ltb}
+use lib.Ieee.{Float, le, lt}
+use Rattle.lists.specs.Tests.{eachTwo}
+use Rattle.floats.specs.Floats.{zero64, within, middle}
+use Rattle.points.specs.declared.Interval.{Interval}
+use Rattle.lines.specs.Admit.{two24}
+use Rattle.knots.specs.Knots.{boundsOf, breaksOf}
+use Rattle.questions.specs.declared.Asked.{Asked}
+use Rattle.questions.specs.declared.Asked.the-variants.{Fine, RangeOutOfBounds, GapOutOfRange, TooManySplits, BreaksTooClose}
+
+-- the table's number for each case, and 0 for a question that is fine
+abbrev pub askedNumber : Asked → ℕ
+askedNumber Fine = 0
+askedNumber (RangeOutOfBounds line) = 15
+askedNumber GapOutOfRange = 16
+askedNumber TooManySplits = 17
+askedNumber (BreaksTooClose line) = 18
+
+-- the line at fault, 1 or 2, or 0
+abbrev pub askedLine : Asked → ℕ
+askedLine Fine = 0
+askedLine (RangeOutOfBounds line) = line
+askedLine GapOutOfRange = 0
+askedLine TooManySplits = 0
+askedLine (BreaksTooClose line) = line
+
+-- 15 isn't met: lo < hi, and the range inside the bounds; these are finite, so it is
+unfoldable pub rangeFits : Interval → Float → Float → Bool
+rangeFits bounds lo hi = cond (lt lo hi) (cond (le (bounds .lo) lo) (le hi (bounds .hi)) false) false
+
+-- 18 isn't met by t0 and t1: t0 < 0.5 × (t0 + t1) < t1
+unfoldable pub parted : Float → Float → Bool
+parted t0 t1 = cond (lt t0 (middle t0 t1)) (lt (middle t0 t1) t1) false
+
+-- 15 of both ranges, 16, 17, then 18 of both
+unfoldable pub askWithin : Interval → List Float → Float → Float → Interval → List Float → Float → Float → Float → ℕ → Asked
+askWithin bounds1 knots1 lo1 hi1 bounds2 knots2 lo2 hi2 gap splits =
+    cond (not (rangeFits bounds1 lo1 hi1)) (RangeOutOfBounds 1)
+    (cond (not (rangeFits bounds2 lo2 hi2)) (RangeOutOfBounds 2)
+    (cond (not (within zero64 two24 gap)) GapOutOfRange
+    (cond (ltb 256 splits) TooManySplits
+    (cond (not (eachTwo parted (breaksOf lo1 hi1 knots1))) (BreaksTooClose 1)
+    (cond (not (eachTwo parted (breaksOf lo2 hi2 knots2))) (BreaksTooClose 2) Fine)))))
+
+-- `ask`: the question about two lines, each given by its degree, knots and multiplicities and the range asked of it
+abbrev pub askOf : ℕ → List Float → List ℕ → Float → Float → ℕ → List Float → List ℕ → Float → Float → Float → ℕ → Asked
+askOf degree1 knots1 mults1 lo1 hi1 degree2 knots2 mults2 lo2 hi2 gap splits =
+    askWithin (boundsOf degree1 knots1 mults1) knots1 lo1 hi1 (boundsOf degree2 knots2 mults2) knots2 lo2 hi2 gap splits

@@ -1,0 +1,143 @@
+// What is wrong with a question about two admitted lines: the table's numbers 15 to 18, in its order.
+ghost use mathlib.Core.Path.{_≡_};
+ghost use Prim.Native.Nat.{_≤_};
+ghost use lib.ListN.{length};
+ghost use Rattle.lists.specs.Tests.{eachTwo};
+ghost use Rattle.lines.specs.declared.Admission.the-variants.{Admitted};
+ghost use Rattle.lines.specs.Admit.{admitOf};
+ghost use Rattle.knots.specs.Knots.{boundsOf, breaksOf};
+ghost use Rattle.questions.specs.Questions.{rangeFits, parted, askWithin, askOf};
+
+// Why a question is refused, or that it is fine. A number 1 or 2 is the line at fault.
+pub enum Asked {
+    Fine,
+    RangeOutOfBounds(u8),
+    GapOutOfRange,
+    TooManySplits,
+    BreaksTooClose(u8),
+}
+
+// Whether a range rises and lies inside a line's bounds.
+fn range_fits(bounds: points::Interval, lo: f64, hi: f64) -> bool
+    ensures { λ r. ⌜ r ≡ rangeFits bounds lo hi ⌝ }
+{
+    if lo < hi {
+        if bounds.lo <= lo {
+            return hi <= bounds.hi;
+        }
+        return false;
+    }
+    false
+}
+
+// Whether the middle lies strictly between.
+fn is_parted(t0: f64, t1: f64) -> bool
+    ensures { λ r. ⌜ r ≡ parted t0 t1 ⌝ }
+{
+    let m = floats::mean(t0, t1);
+    if t0 < m {
+        return m < t1;
+    }
+    false
+}
+
+fn all_parted(s: &[f64]) -> bool
+    requires { ⌜ 1 ≤ length (now s) ⌝ }
+    ensures { λ r. ⌜ r ≡ eachTwo parted (now (s .entry)) ⌝ }
+{
+    let mut i = 0;
+    while i < s.len() - 1 {
+        if is_parted(s[i], s[i + 1]) {
+            i += 1;
+        } else {
+            return false;
+        }
+    }
+    true
+}
+
+// Whether each two neighbouring breaks of the range lie far enough apart.
+fn breaks_fit(knots: &[f64], lo: f64, hi: f64) -> bool
+    requires { ⌜ length (now knots) ≤ 128 ⌝ }
+    ensures { λ r. ⌜ r ≡ eachTwo parted (breaksOf lo hi (now (knots .entry))) ⌝ }
+{
+    let mut b = knots::break_room();
+    let n = knots::breaks(knots, lo, hi, &mut b);
+    all_parted(&b[..n])
+}
+
+// All of 15 to 18, with the lines' bounds worked out.
+fn ask_within(
+    bounds1: points::Interval,
+    knots1: &[f64],
+    lo1: f64,
+    hi1: f64,
+    bounds2: points::Interval,
+    knots2: &[f64],
+    lo2: f64,
+    hi2: f64,
+    gap: f64,
+    splits: u32,
+) -> Asked
+    requires { ⌜ (length (now knots1) ≤ 128) × (length (now knots2) ≤ 128) ⌝ }
+    ensures { λ r. ⌜ r ≡ askWithin bounds1 (now (knots1 .entry)) lo1 hi1 bounds2 (now (knots2 .entry)) lo2 hi2 gap splits ⌝ }
+{
+    if !range_fits(bounds1, lo1, hi1) {
+        return Asked::RangeOutOfBounds(1);
+    }
+    if !range_fits(bounds2, lo2, hi2) {
+        return Asked::RangeOutOfBounds(2);
+    }
+    if !floats::is_within(0.0, 16777216.0, gap) {
+        return Asked::GapOutOfRange;
+    }
+    if splits > 256 {
+        return Asked::TooManySplits;
+    }
+    if !breaks_fit(knots1, lo1, hi1) {
+        return Asked::BreaksTooClose(1);
+    }
+    if !breaks_fit(knots2, lo2, hi2) {
+        return Asked::BreaksTooClose(2);
+    }
+    Asked::Fine
+}
+
+// Whether a question about two admitted lines is fine, and if not, the first fault in the table's order.
+pub fn ask(
+    degree1: u32,
+    knots1: &[f64],
+    mults1: &[u32],
+    coords1: &[f64],
+    weights1: &[f64],
+    lo1: f64,
+    hi1: f64,
+    degree2: u32,
+    knots2: &[f64],
+    mults2: &[u32],
+    coords2: &[f64],
+    weights2: &[f64],
+    lo2: f64,
+    hi2: f64,
+    gap: f64,
+    splits: u32,
+) -> Asked
+    requires { ⌜ admitOf degree1 (now knots1) (now mults1) (now coords1) (now weights1) ≡ Admitted ⌝ }
+    requires { ⌜ admitOf degree2 (now knots2) (now mults2) (now coords2) (now weights2) ≡ Admitted ⌝ }
+    ensures { λ r. ⌜ r ≡ askOf degree1 (now (knots1 .entry)) (now (mults1 .entry)) lo1 hi1 degree2 (now (knots2 .entry)) (now (mults2 .entry)) lo2 hi2 gap splits ⌝ }
+{
+    let bounds1 = knots::bounds(degree1, knots1, mults1);
+    let bounds2 = knots::bounds(degree2, knots2, mults2);
+    ask_within(
+        bounds1,
+        knots1,
+        lo1,
+        hi1,
+        bounds2,
+        knots2,
+        lo2,
+        hi2,
+        gap,
+        splits,
+    )
+}
