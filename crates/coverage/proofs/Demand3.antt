@@ -14,8 +14,7 @@ use Rattle.lists.proofs.Rounds.{length-remains, length-firsts}
 use Rattle.floats.specs.Floats.{middle}
 use Rattle.floats.specs.Sizes.{Within}
 use Rattle.floats.specs.Stations.{Cut}
-use Rattle.lines.specs.declared.Admission.{Admission}
-use Rattle.lines.specs.declared.Admission.the-variants.{Admitted, InvalidDegree, KnotCount, KnotOutOfRange, KnotsNotIncreasing, MultiplicityTooLarge, ZeroMultiplicity, PoleCountMismatch, PoleCountOutOfRange, WeightCountMismatch, WeightOutOfRange, CoordinateOutOfRange}
+use Rattle.lines.specs.declared.Admission.the-variants.{Admitted}
 use Rattle.questions.specs.declared.Asked.{Asked as AskAnswer}
 use Rattle.questions.specs.declared.Asked.the-variants.{Fine as FineQuestion, RangeOutOfBounds, GapOutOfRange, TooManySplits, BreaksTooClose}
 use Rattle.questions.specs.Questions.{rangeFits, askWithin}
@@ -28,7 +27,8 @@ use Rattle.search.specs.Nets.{geometry}
 use Rattle.opening.specs.declared.Opened.{Opened}
 use Rattle.opening.specs.declared.Opened.the-variants.{Open, BadLine, BadQuestion, NoRoom}
 use Rattle.opening.specs.Asked.{start, stateOf, openMemory}
-use Rattle.opening.specs.Opens.{searchFor, isAdmitted, isFine, piecesFit, Opening, opening, piecesIn, openPieces, openDef}
+use Rattle.opening.specs.Opens.{searchFor, isAdmitted, isFine, piecesFit, Opening, opening, Pushing, pushing, openPieces, openDef}
+use Rattle.opening.proofs.Laws.{is-admitted}
 use Rattle.coverage.specs.Calls.{Call, runAll}
 use Rattle.coverage.specs.Rules.{ruleAll}
 use Rattle.coverage.specs.Claim.{FineLine, Fine, After}
@@ -36,20 +36,6 @@ use Rattle.coverage.specs.Demand3.{Demand3}
 use Rattle.coverage.proofs.Final.{fresh-claim}
 
 -- ---- from the tests to their meaning
-pub is-admitted : (a : Admission) → isAdmitted a ≡ true → a ≡ Admitted
-is-admitted Admitted e = refl
-is-admitted InvalidDegree e = absurd (false≢true e)
-is-admitted KnotCount e = absurd (false≢true e)
-is-admitted KnotOutOfRange e = absurd (false≢true e)
-is-admitted KnotsNotIncreasing e = absurd (false≢true e)
-is-admitted MultiplicityTooLarge e = absurd (false≢true e)
-is-admitted ZeroMultiplicity e = absurd (false≢true e)
-is-admitted PoleCountMismatch e = absurd (false≢true e)
-is-admitted PoleCountOutOfRange e = absurd (false≢true e)
-is-admitted WeightCountMismatch e = absurd (false≢true e)
-is-admitted WeightOutOfRange e = absurd (false≢true e)
-is-admitted CoordinateOutOfRange e = absurd (false≢true e)
-
 passed : (r : Bool) (a b : AskAnswer) → isFine a ≡ false → isFine (cond (not r) a b) ≡ true → (r ≡ true) × (isFine b ≡ true)
 passed true a b h e = (refl, e)
 passed false a b h e = absurd (false≢true (sym h ∙ e))
@@ -110,12 +96,10 @@ module _ (q : Question) (p1 p2 : List Float) (u : Memory) (x : State) (cs : List
   room-holds : Fine (searchFor q) → openPieces q p1 p2 u .answer ≡ Open x → Holds q u cs x (openPieces q p1 p2 u .memory)
   room-holds F e = go (enough (needed (stateOf (searchFor q) (start (searchFor q)))) (sizes u)) e (fresh-claim (searchFor q) u F)
     where
-      yes : Opening
-      yes = opening (Open (stateOf (searchFor q) (start (searchFor q)))) (piecesIn (q .line1) (q .lo1) (q .hi1) p1) (piecesIn (q .line2) (q .lo2) (q .hi2) p2) (openMemory (searchFor q) u)
-      nope : Opening
-      nope = opening NoRoom (piecesIn (q .line1) (q .lo1) (q .hi1) p1) (piecesIn (q .line2) (q .lo2) (q .hi2) p2) u
-      go : (b : Bool) → cond {A = Opening} b yes nope .answer ≡ Open x
-          → (T b → (cs : List Call) → Holds q u cs (stateOf (searchFor q) (start (searchFor q))) (openMemory (searchFor q) u)) → Holds q u cs x (cond {A = Opening} b yes nope .memory)
+      yes : Pushing
+      yes = pushing (Open (stateOf (searchFor q) (start (searchFor q)))) (openMemory (searchFor q) u)
+      go : (b : Bool) → cond {A = Pushing} b yes (pushing NoRoom u) .answer ≡ Open x
+          → (T b → (cs : List Call) → Holds q u cs (stateOf (searchFor q) (start (searchFor q))) (openMemory (searchFor q) u)) → Holds q u cs x (cond {A = Pushing} b yes (pushing NoRoom u) .memory)
       go true e f = subst (λ (y : State). Holds q u cs y (openMemory (searchFor q) u)) (same-state (stateOf (searchFor q) (start (searchFor q))) x e) (f tt cs)
       go false e f = absurd (let z : _≡_ {A = ℕ} 0 1 = cc in omega arith)
 

@@ -17,8 +17,10 @@ use Rattle.curves.specs.Curves.{pieceCount, piecesOf}
 use Rattle.facts.specs.Faults.{Line, Question, admission, asked}
 use Rattle.facts.specs.Cover.{cutsOf}
 use Rattle.states.specs.declared.State.{State}
-use Rattle.states.specs.States.{Memory, sizes, needed, enough}
+use Rattle.pairs.specs.Pairs.{Pieces, pairsFrom, nets1Of, nets2Of, rangesOf, depthsOf}
+use Rattle.states.specs.States.{Memory, memory, sizes, needed, enough}
 use Rattle.search.specs.Nets.{geometry}
+use Rattle.opening.specs.declared.Question.{Question as Asking}
 use Rattle.opening.specs.declared.Opened.{Opened}
 use Rattle.opening.specs.declared.Opened.the-variants.{Open, BadLine, BadQuestion, NoRoom}
 use Rattle.opening.specs.Asked.{Asked, start, stateOf, openMemory}
@@ -43,6 +45,17 @@ searchFor q = record {
     lo1 = q .lo1; hi1 = q .hi1; cuts1 = cutsOf (q .line1) (q .lo1) (q .hi1);
     lo2 = q .lo2; hi2 = q .hi2; cuts2 = cutsOf (q .line2) (q .lo2) (q .hi2);
     gap = q .gap; quota = q .splits; width1 = q .line1 .degree + 1; width2 = q .line2 .degree + 1 }
+
+-- the lines and the question as the code takes them
+abbrev pub lineOf : ℕ → List Float → List ℕ → List Float → List Float → Line
+lineOf degree knots mults coords weights = record { degree = degree; knots = knots; mults = mults; coords = coords; weights = weights }
+
+abbrev pub questionOf : Asking → Line → Line → Question
+questionOf a l1 l2 = record { line1 = l1; lo1 = a .lo1; hi1 = a .hi1; line2 = l2; lo2 = a .lo2; hi2 = a .hi2; gap = a .gap; splits = a .splits }
+
+-- the state of a fresh search of P pairs: all wait, and S × P may be spent
+abbrev pub firstState : ℕ → ℕ → ℕ → ℕ → Float → State
+firstState P S w1 w2 gap = record { pairs = P; quota = S; waiting = P; visits = 0; splits = 0; unspent = S * P; settled = 0; given = 0; width1 = w1; width2 = w2; gap = gap; stopped = false }
 
 -- ---- the tests
 abbrev pub isAdmitted : Admission → Bool
@@ -87,12 +100,31 @@ opening a p1 p2 u = record { answer = a; pieces1 = p1; pieces2 = p2; memory = u 
 abbrev pub piecesIn : Line → Float → Float → List Float → List Float
 piecesIn l lo hi p = patch p 0 (piecesOf (l .degree) (l .knots) (l .mults) (l .coords) (l .weights) lo hi)
 
--- the pieces written, and the pairs pushed if there is room
+-- the pairs pushed, if there is room for them
+pub record Pushing : Type 0 where
+  pub answer : Opened
+  pub memory : Memory
+
+abbrev pub pushing : Opened → Memory → Pushing
+pushing a u = record { answer = a; memory = u }
+
+abbrev pub pushDef : Asked → Memory → Pushing
+pushDef q u = cond (enough (needed (stateOf q (start q))) (sizes u)) (pushing (Open (stateOf q (start q))) (openMemory q u)) (pushing NoRoom u)
+
+-- the same by the numbers of the pieces (`push`)
+abbrev pub pushPairs : ℕ → Float → Pieces → Pieces → ℕ → ℕ → Memory → Pushing
+pushPairs S gap p q n1 n2 u =
+    let ks = pairsFrom gap p q n2 n1 0 in
+    let x = firstState (length ks) S (p .w) (q .w) gap in
+    cond (enough (needed x) (sizes u))
+    (pushing (Open x) (memory (patch (u .nets1) 0 (nets1Of p ks)) (patch (u .nets2) 0 (nets2Of q ks)) (patch (u .ranges) 0 (rangesOf p q ks)) (patch (u .depths) 0 (depthsOf ks)) (u .raw)))
+    (pushing NoRoom u)
+
+-- the pieces written, and the pairs pushed
 abbrev pub openPieces : Question → List Float → List Float → Memory → Opening
 openPieces q p1 p2 u =
-    cond (enough (needed (stateOf (searchFor q) (start (searchFor q)))) (sizes u))
-    (opening (Open (stateOf (searchFor q) (start (searchFor q)))) (piecesIn (q .line1) (q .lo1) (q .hi1) p1) (piecesIn (q .line2) (q .lo2) (q .hi2) p2) (openMemory (searchFor q) u))
-    (opening NoRoom (piecesIn (q .line1) (q .lo1) (q .hi1) p1) (piecesIn (q .line2) (q .lo2) (q .hi2) p2) u)
+    let o = pushDef (searchFor q) u in
+    opening (o .answer) (piecesIn (q .line1) (q .lo1) (q .hi1) p1) (piecesIn (q .line2) (q .lo2) (q .hi2) p2) (o .memory)
 
 abbrev pub openDef : Question → List Float → List Float → Memory → Opening
 openDef q p1 p2 u =

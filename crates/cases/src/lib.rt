@@ -1,0 +1,1 @@
+// Document 01's starred searches, worked out by the definitions. No code.

@@ -1,0 +1,153 @@
+-- The opening's tests, one a return, and the room of what is pushed. Assumes nothing.
+use mathlib.Core.Path.{_≡_, refl, sym, ap, _∙_, subst}
+use mathlib.Core.Bool.{Bool, true, false, not, _&&_, cond, false≢true}
+use mathlib.Core.List.{List}
+use Prim.Native.Nat.{ℕ, suc, _+_, _-_, _*_, _^_, _≤_, _<_}
+use native.Mathlib.Nat.{le-trans, mul-le-mul, mul-le-mul-right}
+use native.Mathlib.Omega.{arith}
+use lib.Dec.{leb, ltb}
+use borrow.Author.Tests.{ltb-false, leb-true, lt-leb, le-leb}
+use lib.ListN.{length, take, length-reverse}
+use lib.Seq.{length-take-le}
+use lib.Ieee.{Float}
+use Rattle.lists.specs.Parts.{patch}
+use Rattle.lines.specs.declared.Admission.{Admission}
+use Rattle.lines.specs.declared.Admission.the-variants.{Admitted, InvalidDegree, KnotCount, KnotOutOfRange, KnotsNotIncreasing, MultiplicityTooLarge, ZeroMultiplicity, PoleCountMismatch, PoleCountOutOfRange, WeightCountMismatch, WeightOutOfRange, CoordinateOutOfRange}
+use Rattle.questions.specs.declared.Asked.{Asked as AskAnswer}
+use Rattle.questions.specs.declared.Asked.the-variants.{RangeOutOfBounds, GapOutOfRange, TooManySplits}
+use Rattle.floats.specs.Floats.{zero64, within}
+use Rattle.lines.specs.Admit.{two24}
+use Rattle.questions.specs.Questions.{rangeFits, askWithin}
+use Rattle.knots.specs.Knots.{breaksOf}
+use Rattle.curves.specs.Curves.{pieceCount}
+use Rattle.facts.specs.Faults.{Question, admission, asked, bounds}
+use Rattle.pairs.specs.Nodes.{HasPieces}
+use Rattle.pairs.specs.Pairs.{Pieces, pieces, pairsFrom, nets1Of, nets2Of, rangesOf, depthsOf}
+use Rattle.states.specs.declared.State.{State}
+use Rattle.states.specs.States.{Memory, memory, Sizes, sizes, needed, enough}
+use Rattle.search.proofs.Tests.{and-first, and-second, room-all}
+use Rattle.opening.specs.declared.Opened.{Opened}
+use Rattle.opening.specs.declared.Opened.the-variants.{Open, BadLine, BadQuestion, NoRoom}
+use Rattle.opening.specs.Asked.{pushedPairs, start, stateOf}
+use Rattle.opening.specs.Opens.{searchFor, firstState, isAdmitted, isFine, piecesFit, piecesIn, Pushing, pushing, pushDef, pushPairs, Opening, opening, openPieces, openDef}
+use Rattle.opening.proofs.Pushed.{one, other, numbered, pairs-are, memory-is}
+
+-- so many pairs as pieces allow
+pub few-pairs : (r n m : ℕ) → n ≤ 129 → m ≤ 129 → r ≤ n * m → r ≤ 16641
+few-pairs r n m h k l = let w = mul-le-mul h k in omega arith
+
+pub push-room : (x : State) (n S w1 w2 : ℕ) (gap : Float) (s : Sizes) → x ≡ firstState n S w1 w2 gap → enough (needed x) s ≡ true
+    → (n * (4 * w1) ≤ s .nets1) × (n * (4 * w2) ≤ s .nets2) × (n * 4 ≤ s .ranges) × (n ≤ s .depths)
+push-room x n S w1 w2 gap s e f =
+    let R = room-all (firstState n S w1 w2 gap) s (subst (λ (y : State). enough (needed y) s ≡ true) e f) in
+    let more : n ≤ n + 64 = omega arith in
+    (le-trans (mul-le-mul-right (4 * w1) more) (R .nets1), le-trans (mul-le-mul-right (4 * w2) more) (R .nets2),
+     le-trans (mul-le-mul-right 4 more) (R .ranges), (let z = R .depths in omega arith))
+
+module _ (S : ℕ) (gap : Float) (p q : Pieces) (n1 n2 : ℕ) (u : Memory) (x : State) (n : ℕ) (en : n ≡ length (pairsFrom gap p q n2 n1 0)) (ex : x ≡ firstState n S (p .w) (q .w) gap) where
+  state-is : x ≡ firstState (length (pairsFrom gap p q n2 n1 0)) S (p .w) (q .w) gap
+  state-is = ex ∙ ap (λ (k : ℕ). firstState k S (p .w) (q .w) gap) en
+
+  pub push-short : enough (needed x) (sizes u) ≡ false → pushing NoRoom u ≡ pushPairs S gap p q n1 n2 u
+  push-short e = rw (subst (λ (y : State). enough (needed y) (sizes u) ≡ false) state-is e) refl
+
+  pub push-done : enough (needed x) (sizes u) ≡ true → (a b r : List Float) (d : List ℕ)
+      → a ≡ patch (u .nets1) 0 (nets1Of p (pairsFrom gap p q n2 n1 0)) → b ≡ patch (u .nets2) 0 (nets2Of q (pairsFrom gap p q n2 n1 0))
+      → r ≡ patch (u .ranges) 0 (rangesOf p q (pairsFrom gap p q n2 n1 0)) → d ≡ patch (u .depths) 0 (depthsOf (pairsFrom gap p q n2 n1 0))
+      → pushing (Open x) (memory a b r d (u .raw)) ≡ pushPairs S gap p q n1 n2 u
+  push-done e a b r d ea eb er ed =
+      rw (subst (λ (y : State). enough (needed y) (sizes u) ≡ true) state-is e)
+      (λ i. pushing (Open (state-is i)) (memory (ea i) (eb i) (er i) (ed i) (u .raw)))
+
+-- ---- pushed by the numbers of the pieces, or as the machine has it
+module _ (q : Question) (p1 p2 : List Float) (u : Memory) where
+  fresh-state : firstState (length (numbered q p1 p2)) (q .splits) (q .line1 .degree + 1) (q .line2 .degree + 1) (q .gap) ≡ stateOf (searchFor q) (start (searchFor q))
+  fresh-state =
+      let e = sym (pairs-are q p1 p2) in
+      let w = e ∙ sym (length-reverse (pushedPairs (searchFor q))) in
+      λ i. record { pairs = e i; quota = q .splits; waiting = w i; visits = 0; splits = 0; unspent = q .splits * e i; settled = 0; given = 0;
+        width1 = q .line1 .degree + 1; width2 = q .line2 .degree + 1; gap = q .gap; stopped = false }
+
+  pub push-is : pushPairs (q .splits) (q .gap) (one q p1 p2) (other q p1 p2) (pieceCount (q .lo1) (q .hi1) (q .line1 .knots)) (pieceCount (q .lo2) (q .hi2) (q .line2 .knots)) u ≡ pushDef (searchFor q) u
+  push-is =
+      let m = memory-is q p1 p2 u _ _ _ _ refl refl refl refl in
+      λ i. cond (enough (needed (fresh-state i)) (sizes u)) (pushing (Open (fresh-state i)) (m i)) (pushing NoRoom u)
+
+  -- the pieces written, then the pairs pushed
+  pub pieces-opened : (r : Opened) (a b : List Float) (m : Memory) → a ≡ piecesIn (q .line1) (q .lo1) (q .hi1) p1 → b ≡ piecesIn (q .line2) (q .lo2) (q .hi2) p2
+      → pushing r m ≡ pushPairs (q .splits) (q .gap) (pieces (q .line1 .degree + 1) a (breaksOf (q .lo1) (q .hi1) (q .line1 .knots))) (pieces (q .line2 .degree + 1) b (breaksOf (q .lo2) (q .hi2) (q .line2 .knots)))
+        (pieceCount (q .lo1) (q .hi1) (q .line1 .knots)) (pieceCount (q .lo2) (q .hi2) (q .line2 .knots)) u
+      → opening r a b m ≡ openPieces q p1 p2 u
+  pieces-opened r a b m ea eb e =
+      let f = e ∙ (λ i. pushPairs (q .splits) (q .gap) (pieces (q .line1 .degree + 1) (ea i) (breaksOf (q .lo1) (q .hi1) (q .line1 .knots))) (pieces (q .line2 .degree + 1) (eb i) (breaksOf (q .lo2) (q .hi2) (q .line2 .knots)))
+        (pieceCount (q .lo1) (q .hi1) (q .line1 .knots)) (pieceCount (q .lo2) (q .hi2) (q .line2 .knots)) u) ∙ push-is in
+      λ i. opening (f i .answer) (ea i) (eb i) (f i .memory)
+
+  -- ---- the tests, one a return
+  pub bad-first : isAdmitted (admission (q .line1)) ≡ false → opening (BadLine 1 (admission (q .line1))) p1 p2 u ≡ openDef q p1 p2 u
+  bad-first e = rw e refl
+
+  pub bad-second : isAdmitted (admission (q .line1)) ≡ true → isAdmitted (admission (q .line2)) ≡ false → opening (BadLine 2 (admission (q .line2))) p1 p2 u ≡ openDef q p1 p2 u
+  bad-second e f = rw (e, f) refl
+
+  pub bad-question : isAdmitted (admission (q .line1)) ≡ true → isAdmitted (admission (q .line2)) ≡ true → isFine (asked q) ≡ false → opening (BadQuestion (asked q)) p1 p2 u ≡ openDef q p1 p2 u
+  bad-question e f g = rw (e, f, g) refl
+
+  pub no-room : isAdmitted (admission (q .line1)) ≡ true → isAdmitted (admission (q .line2)) ≡ true → isFine (asked q) ≡ true → piecesFit q p1 p2 ≡ false → opening NoRoom p1 p2 u ≡ openDef q p1 p2 u
+  no-room e f g h = rw (e, f, g, h) refl
+
+  pub opened-is : isAdmitted (admission (q .line1)) ≡ true → isAdmitted (admission (q .line2)) ≡ true → isFine (asked q) ≡ true → piecesFit q p1 p2 ≡ true
+      → (r : Opening) → r ≡ openPieces q p1 p2 u → r ≡ openDef q p1 p2 u
+  opened-is e f g h r k = k ∙ rw (e, f, g, h) refl
+
+-- ---- a line's breaks in a local array, of which m are used
+pub used-length : (m : ℕ) (out : List Float) → m ≤ length out → m ≡ length (take m out)
+used-length m out h = sym (length-take-le m out h)
+
+pub has-pieces : (m w d : ℕ) (P out B : List Float) → m ≡ length B → take m out ≡ B → 2 ≤ m → w ≡ d + 1 → (length B - 1) * (4 * (d + 1)) ≤ length P → HasPieces (pieces w P (take m out)) (m - 1)
+has-pieces m w d P out B e f h ew r =
+    (rw (e, ew) r, let l : length (take m out) ≡ m = ap length f ∙ sym e in omega arith)
+
+-- ---- from the tests to their meaning
+pub is-admitted : (a : Admission) → isAdmitted a ≡ true → a ≡ Admitted
+is-admitted Admitted e = refl
+is-admitted InvalidDegree e = absurd (false≢true e)
+is-admitted KnotCount e = absurd (false≢true e)
+is-admitted KnotOutOfRange e = absurd (false≢true e)
+is-admitted KnotsNotIncreasing e = absurd (false≢true e)
+is-admitted MultiplicityTooLarge e = absurd (false≢true e)
+is-admitted ZeroMultiplicity e = absurd (false≢true e)
+is-admitted PoleCountMismatch e = absurd (false≢true e)
+is-admitted PoleCountOutOfRange e = absurd (false≢true e)
+is-admitted WeightCountMismatch e = absurd (false≢true e)
+is-admitted WeightOutOfRange e = absurd (false≢true e)
+is-admitted CoordinateOutOfRange e = absurd (false≢true e)
+
+passed : (b : Bool) (a c : AskAnswer) → isFine a ≡ false → isFine (cond b a c) ≡ true → (b ≡ false) × (isFine c ≡ true)
+passed true a c h e = absurd (false≢true (sym h ∙ e))
+passed false a c h e = (refl, e)
+
+-- a fine question has at most 256 splits a pair
+pub few-splits : (q : Question) → isFine (asked q) ≡ true → q .splits ≤ 256
+unfolding askWithin
+few-splits q e =
+    let a = passed (not (rangeFits (bounds (q .line1)) (q .lo1) (q .hi1))) (RangeOutOfBounds 1) _ refl e in
+    let b = passed (not (rangeFits (bounds (q .line2)) (q .lo2) (q .hi2))) (RangeOutOfBounds 2) _ refl (a .1) in
+    let c = passed (not (within zero64 two24 (q .gap))) GapOutOfRange _ refl (b .1) in
+    let d = passed (ltb 256 (q .splits)) TooManySplits _ refl (c .1) in
+    ltb-false 256 (q .splits) (d .0)
+
+pub both-fit : (a b m n : ℕ) → (leb a m && leb b n) ≡ true → (a ≤ m) × (b ≤ n)
+both-fit a b m n e = (leb-true a m (and-first (leb a m) (leb b n) e), leb-true b n (and-second (leb a m) (leb b n) e))
+
+-- 4 × width a piece of at most 129 pieces is no large number
+pub need-small : (n w : ℕ) → n ≤ 129 → w ≤ 26 → n * (4 * w) < 2 ^ 64
+need-small n w h k = let g : 4 * w ≤ 104 = omega arith in let m = mul-le-mul h g in omega arith
+
+-- the two tests of `pieces_fit`
+module _ (n n' w d m a b : ℕ) (en : n ≡ n') (ew : w ≡ d) where
+  pub fits-short : m < n * (4 * (w + 1)) → false ≡ (leb (n' * (4 * (d + 1))) m && leb a b)
+  fits-short h = rw (lt-leb (n' * (4 * (d + 1))) m (subst (λ (z : ℕ). m < z) (λ i. en i * (4 * (ew i + 1))) h)) refl
+
+  pub fits-first : n * (4 * (w + 1)) ≤ m → leb a b ≡ (leb (n' * (4 * (d + 1))) m && leb a b)
+  fits-first h = rw (le-leb (n' * (4 * (d + 1))) m (subst (λ (z : ℕ). z ≤ m) (λ i. en i * (4 * (ew i + 1))) h)) refl
