@@ -1,0 +1,17 @@
+"""The model in C answers the stored sheets as the Rust did."""
+import pathlib
+import shutil
+import subprocess
+import sys
+import tempfile
+
+ROOT = pathlib.Path(__file__).resolve().parent.parent
+compiler = shutil.which("cc") or shutil.which("gcc") or shutil.which("clang")
+if compiler is None:
+    print("model: no C compiler at hand, not run")
+    sys.exit(0)
+with tempfile.TemporaryDirectory() as folder:
+    program = f"{folder}/clearance"
+    subprocess.run([compiler, "-O2", "-std=c99", "-ffp-contract=off", "-o", program, ROOT / "tests/model/clearance.c", "-lm"], check=True)
+    done = subprocess.run([sys.executable, "-B", ROOT / "tests/compare.py", "--save", folder, "--replay", ROOT / "tests/answers", program])
+sys.exit(done.returncode)
