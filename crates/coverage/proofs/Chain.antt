@@ -47,7 +47,7 @@ given-small : (q : Asked) (m : Search (shape q)) → Numbers q m → length (m .
 given-small q m N = let b = N .counts .balance in let a = N .allowance in omega arith
 
 -- what the own verdict reads of the top node
-abbrev OwnHeld : (q : Asked) → Memory → List (Node (shape q)) → Type 0
+abbrev pub OwnHeld : (q : Asked) → Memory → List (Node (shape q)) → Type 0
 OwnHeld q w [] = Unit {0}
 OwnHeld q w (n ∷ r) = (block (4 * q .width1) (length r) (w .nets1) ≡ netOf1 q n) × (block (4 * q .width2) (length r) (w .nets2) ≡ netOf2 q n) × (block 1 (length r) (w .depths) ≡ depthOf q n)
 
@@ -91,7 +91,7 @@ module _ (q : Asked) (low : (w : ℕ) (l : List Float) → length l ≡ 4 * w �
       (step-sim q low upp m (lend n u) v (I .numbers) (held-lent q m n u (I .numbers) (I .held))))
 
   -- ---- the own verdict
-  own-fields : (l : List (Node (shape q))) (se : List (Settling (shape q))) (gi : List (Node (shape q))) (vi sp un : ℕ) (st to : Bool) (w : Memory)
+  pub own-fields : (l : List (Node (shape q))) (se : List (Settling (shape q))) (gi : List (Node (shape q))) (vi sp un : ℕ) (st to : Bool) (w : Memory)
       → Numbers q (search q l se gi vi sp un st to) → (RoomOwn q (sizes w) → OwnHeld q w l)
       → ownDef (q .geometry) (stateOf q (search q l se gi vi sp un st to)) w
         ≡ cond (ended (shape q) (search q l se gi vi sp un st to)) OwnEnded (cond (enoughOwn (needed (stateOf q (start q))) (sizes w)) (testTop q l) OwnNoRoom)
@@ -226,7 +226,7 @@ module _ (q : Asked) (full : Sizes) where
 
 -- ---- any call, and any list of calls
 module _ (q : Asked) (low : (w : ℕ) (l : List Float) → length l ≡ 4 * w → length (q .geometry .lowerNet l) ≡ 4 * w) (upp : (w : ℕ) (l : List Float) → length l ≡ 4 * w → length (q .geometry .upperNet l) ≡ 4 * w) (full : Sizes) where
-  hear-inv : (v : Verdict) (m : Search (shape q)) (u : Memory) → Inv q full m u → Inv q full (hear (shape q) v m) u
+  pub hear-inv : (v : Verdict) (m : Search (shape q)) (u : Memory) → Inv q full m u → Inv q full (hear (shape q) v m) u
   hear-inv v m u I = record {
       numbers = record { counts = record { balance = I .numbers .counts .balance; steep = I .numbers .counts .steep }; allowance = I .numbers .allowance; visited = I .numbers .visited };
       held = record { nodes = I .held .nodes; raw = I .held .raw };

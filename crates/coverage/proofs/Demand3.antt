@@ -83,36 +83,41 @@ fine-search q a b f =
       lower-length = lower-long;
       upper-length = upper-long }
 
+-- ---- what an opening that was not refused leaves: a fresh search of a fine question, in memory that is long enough
+same-state : (x y : State) → Open x ≡ Open y → x ≡ y
+same-state x y e = cc
+
+module _ (q : Question) (p1 p2 : List Float) (u : Memory) (x : State) (P : State → Memory → Type 0)
+    (f : Fine (searchFor q) → T (enough (needed (stateOf (searchFor q) (start (searchFor q)))) (sizes u)) → P (stateOf (searchFor q) (start (searchFor q))) (openMemory (searchFor q) u)) where
+  pushed-fresh : Fine (searchFor q) → openPieces q p1 p2 u .answer ≡ Open x → P x (openPieces q p1 p2 u .memory)
+  pushed-fresh F e = go (enough (needed (stateOf (searchFor q) (start (searchFor q)))) (sizes u)) e (f F)
+    where
+      yes : Pushing
+      yes = pushing (Open (stateOf (searchFor q) (start (searchFor q)))) (openMemory (searchFor q) u)
+      go : (b : Bool) → cond {A = Pushing} b yes (pushing NoRoom u) .answer ≡ Open x
+          → (T b → P (stateOf (searchFor q) (start (searchFor q))) (openMemory (searchFor q) u)) → P x (cond {A = Pushing} b yes (pushing NoRoom u) .memory)
+      go true e h = subst (λ (y : State). P y (openMemory (searchFor q) u)) (same-state (stateOf (searchFor q) (start (searchFor q))) x e) (h tt)
+      go false e h = absurd (let z : _≡_ {A = ℕ} 0 1 = cc in omega arith)
+
+  tests-fresh : (a b c d : Bool) → (a ≡ true → b ≡ true → c ≡ true → Fine (searchFor q))
+      → cond {A = Opening} a (cond b (cond c (cond d (openPieces q p1 p2 u) (opening NoRoom p1 p2 u)) (opening (BadQuestion (asked q)) p1 p2 u)) (opening (BadLine 2 (admission (q .line2))) p1 p2 u)) (opening (BadLine 1 (admission (q .line1))) p1 p2 u) .answer ≡ Open x
+      → P x (cond {A = Opening} a (cond b (cond c (cond d (openPieces q p1 p2 u) (opening NoRoom p1 p2 u)) (opening (BadQuestion (asked q)) p1 p2 u)) (opening (BadLine 2 (admission (q .line2))) p1 p2 u)) (opening (BadLine 1 (admission (q .line1))) p1 p2 u) .memory)
+  tests-fresh true true true true g e = pushed-fresh (g refl refl refl) e
+  tests-fresh true true true false g e = absurd (let z : _≡_ {A = ℕ} 0 1 = cc in omega arith)
+  tests-fresh true true false d g e = absurd (let z : _≡_ {A = ℕ} 0 1 = cc in omega arith)
+  tests-fresh true false c d g e = absurd (let z : _≡_ {A = ℕ} 0 1 = cc in omega arith)
+  tests-fresh false b c d g e = absurd (let z : _≡_ {A = ℕ} 0 1 = cc in omega arith)
+
+  pub opened-fresh : openDef q p1 p2 u .answer ≡ Open x → P x (openDef q p1 p2 u .memory)
+  opened-fresh e =
+      tests-fresh (isAdmitted (admission (q .line1))) (isAdmitted (admission (q .line2))) (isFine (asked q)) (piecesFit q p1 p2)
+      (λ a b c. fine-search q (is-admitted (admission (q .line1)) a) (is-admitted (admission (q .line2)) b) c) e
+
 -- ---- the whole
 abbrev Holds : Question → Memory → List Call → State → Memory → Type 0
 Holds q u cs x m =
     (runAll geometry cs x m .answers ≡ ruleAll (searchFor q) (sizes u) cs (start (searchFor q)) .answers)
     × After (searchFor q) (ruleAll (searchFor q) (sizes u) cs (start (searchFor q)) .search) (runAll geometry cs x m)
 
-same-state : (x y : State) → Open x ≡ Open y → x ≡ y
-same-state x y e = cc
-
-module _ (q : Question) (p1 p2 : List Float) (u : Memory) (x : State) (cs : List Call) where
-  room-holds : Fine (searchFor q) → openPieces q p1 p2 u .answer ≡ Open x → Holds q u cs x (openPieces q p1 p2 u .memory)
-  room-holds F e = go (enough (needed (stateOf (searchFor q) (start (searchFor q)))) (sizes u)) e (fresh-claim (searchFor q) u F)
-    where
-      yes : Pushing
-      yes = pushing (Open (stateOf (searchFor q) (start (searchFor q)))) (openMemory (searchFor q) u)
-      go : (b : Bool) → cond {A = Pushing} b yes (pushing NoRoom u) .answer ≡ Open x
-          → (T b → (cs : List Call) → Holds q u cs (stateOf (searchFor q) (start (searchFor q))) (openMemory (searchFor q) u)) → Holds q u cs x (cond {A = Pushing} b yes (pushing NoRoom u) .memory)
-      go true e f = subst (λ (y : State). Holds q u cs y (openMemory (searchFor q) u)) (same-state (stateOf (searchFor q) (start (searchFor q))) x e) (f tt cs)
-      go false e f = absurd (let z : _≡_ {A = ℕ} 0 1 = cc in omega arith)
-
-  opened-holds : (a b c d : Bool) → (a ≡ true → b ≡ true → c ≡ true → Fine (searchFor q))
-      → cond {A = Opening} a (cond b (cond c (cond d (openPieces q p1 p2 u) (opening NoRoom p1 p2 u)) (opening (BadQuestion (asked q)) p1 p2 u)) (opening (BadLine 2 (admission (q .line2))) p1 p2 u)) (opening (BadLine 1 (admission (q .line1))) p1 p2 u) .answer ≡ Open x
-      → Holds q u cs x (cond {A = Opening} a (cond b (cond c (cond d (openPieces q p1 p2 u) (opening NoRoom p1 p2 u)) (opening (BadQuestion (asked q)) p1 p2 u)) (opening (BadLine 2 (admission (q .line2))) p1 p2 u)) (opening (BadLine 1 (admission (q .line1))) p1 p2 u) .memory)
-  opened-holds true true true true f e = room-holds (f refl refl refl) e
-  opened-holds true true true false f e = absurd (let z : _≡_ {A = ℕ} 0 1 = cc in omega arith)
-  opened-holds true true false d f e = absurd (let z : _≡_ {A = ℕ} 0 1 = cc in omega arith)
-  opened-holds true false c d f e = absurd (let z : _≡_ {A = ℕ} 0 1 = cc in omega arith)
-  opened-holds false b c d f e = absurd (let z : _≡_ {A = ℕ} 0 1 = cc in omega arith)
-
 pub demand3 : Demand3
-demand3 q p1 p2 u x e cs =
-    opened-holds q p1 p2 u x cs (isAdmitted (admission (q .line1))) (isAdmitted (admission (q .line2))) (isFine (asked q)) (piecesFit q p1 p2)
-    (λ a b c. fine-search q (is-admitted (admission (q .line1)) a) (is-admitted (admission (q .line2)) b) c) e
+demand3 q p1 p2 u x e cs = opened-fresh q p1 p2 u x (Holds q u cs) (λ F room. fresh-claim (searchFor q) u F room cs) e

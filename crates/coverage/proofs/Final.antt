@@ -52,7 +52,7 @@ SoundPiece p = Within (2 ^ bound) (p .lo) × Within (2 ^ bound) (p .hi)
 mid-fine : (p : Piece) → SoundPiece p → Within (2 ^ bound) (middle (p .lo) (p .hi))
 mid-fine p h = middle-within bound (p .lo) (p .hi) (lit< tt) (h .0) (h .1)
 
-halving : (q : Asked) → Halving (shape q)
+pub halving : (q : Asked) → Halving (shape q)
 unfolding mid-fine
 halving q = record {
     Sound = SoundPiece;
@@ -86,20 +86,20 @@ off-comm : (g r : Region) → T (not (touchesOf g r)) → T (not (touchesOf r g)
 off-comm g r h = subst (λ (b : Bool). T (not b)) (touch-comm g r) h
 
 -- ---- the search that the rules make
-abbrev Cleared : (q : Asked) → Settling (shape q) → Type 0
+abbrev pub Cleared : (q : Asked) → Settling (shape q) → Type 0
 Cleared q e = T (e .own) → q .geometry .clearing (q .gap) (netOf1 q (e .node)) (netOf2 q (e .node)) ≡ Settled
 
 -- the verdict is what the tests give for the top node
-abbrev Says : (q : Asked) → Verdict → List (Node (shape q)) → Type 0
+abbrev pub Says : (q : Asked) → Verdict → List (Node (shape q)) → Type 0
 Says q v [] = Unit {0}
 Says q v (n ∷ r) = q .geometry .clearing (q .gap) (netOf1 q n) (netOf2 q n) ≡ v
 
-record Ok (q : Asked) (m : Search (shape q)) : Type 0 where
-  covered : (s t : Float) → In1 q s → In2 q t → Covered (shape q) (pieces1 q) (pieces2 q) m s t
-  sound : All (SoundNode (shape q) (halving q)) (m .stack)
-  soundGiven : All (SoundNode (shape q) (halving q)) (m .given)
-  cleared : All (Cleared q) (m .settled)
-  honest : T (m .told) → Says q Settled (m .stack)
+pub record Ok (q : Asked) (m : Search (shape q)) : Type 0 where
+  pub covered : (s t : Float) → In1 q s → In2 q t → Covered (shape q) (pieces1 q) (pieces2 q) m s t
+  pub sound : All (SoundNode (shape q) (halving q)) (m .stack)
+  pub soundGiven : All (SoundNode (shape q) (halving q)) (m .given)
+  pub cleared : All (Cleared q) (m .settled)
+  pub honest : T (m .told) → Says q Settled (m .stack)
 
 module _ (q : Asked) where
   given-divide : (d : Bool) (k : ℕ) (n : Node (shape q)) (r : List (Node (shape q))) (m : Search (shape q)) → SoundNode (shape q) (halving q) n → All (SoundNode (shape q) (halving q)) (m .given)
@@ -144,7 +144,7 @@ module _ (q : Asked) where
   honest-top Split (n ∷ r) m e f t = absurd (subst T (fresh-divide (leb limit (depth (shape q) n)) (m .unspent) n r m) t)
   honest-top Unseparated (n ∷ r) m e f t = absurd t
 
-  ok-advance : (v : Verdict) (m : Search (shape q)) → Ok q m → Ok q (advance (shape q) v m)
+  pub ok-advance : (v : Verdict) (m : Search (shape q)) → Ok q m → Ok q (advance (shape q) v m)
   ok-advance v m k = record {
       covered = λ s t a b. cover-advance (shape q) (halving q) (pieces1 q) (pieces2 q) s t v m (k .sound) (k .covered s t a b);
       sound = sound-advance (shape q) (halving q) v m (k .sound);
@@ -163,7 +163,7 @@ module _ (q : Asked) where
   said-settle Split l h t = absurd t
   said-settle Unseparated l h t = absurd t
 
-  ok-hear : (v : Verdict) (m : Search (shape q)) → Says q v (m .stack) → Ok q m → Ok q (hear (shape q) v m)
+  pub ok-hear : (v : Verdict) (m : Search (shape q)) → Says q v (m .stack) → Ok q m → Ok q (hear (shape q) v m)
   ok-hear v m h k = record {
       covered = λ s t a b. keep-covered v m s t (k .covered s t a b);
       sound = k .sound; soundGiven = k .soundGiven; cleared = k .cleared;
@@ -232,7 +232,7 @@ account q m k s t (bySettled h) = inr (inl h)
 account q m k s t (byGiven h) = inr (inr (merged-has merging (Float × Float) keeping (s, t) (rawList q m) (raw-valid q m k) (in-regions q s t (m .given ++ reverse (m .stack)) (any-left (InNode (shape q) s t) (m .given) (reverse (m .stack)) h))))
 account q m k s t (byWaiting h) = inr (inr (merged-has merging (Float × Float) keeping (s, t) (rawList q m) (raw-valid q m k) (in-regions q s t (m .given ++ reverse (m .stack)) (any-right (InNode (shape q) s t) (m .given) (reverse (m .stack)) (any-reverse (InNode (shape q) s t) (m .stack) h)))))
 
-word-exact : (g l : ℕ) → (wordFor g l ≡ Complete) ↔ ((g ≡ 0) × (l ≡ 0))
+pub word-exact : (g l : ℕ) → (wordFor g l ≡ Complete) ↔ ((g ≡ 0) × (l ≡ 0))
 word-exact zero zero = (λ e. (refl, refl), λ e. refl)
 word-exact (suc g) zero = (λ e. absurd (let z : _≡_ {A = ℕ} 0 1 = cc in omega arith), λ e. absurd (let z = e .0 in omega arith))
 word-exact zero (suc l) = (λ e. absurd (let z : _≡_ {A = ℕ} 0 1 = cc in omega arith), λ e. absurd (let z = e .1 in omega arith))
@@ -333,7 +333,7 @@ module _ (q : Asked) (full : Sizes) where
   good-all (c ∷ cs) m k = (later cs (callRule q full c m .search) (callRule q full c m .answer) (good-call c m k), good-all cs (callRule q full c m .search) (ok-call q full c m k))
 
 -- ---- the whole
-ok-start : (q : Asked) → Fine q → Ok q (start q)
+pub ok-start : (q : Asked) → Fine q → Ok q (start q)
 unfolding halving
 ok-start q O = record {
     covered = λ s t a b. cover-fresh (shape q) s t (pieces1 q) (pieces2 q) (q .quota * pairsOf q) (O .covers1 s a) (O .covers2 t b);
