@@ -1,1 +1,1 @@
-// Document 01's starred searches, worked out by the definitions. No code.
+// Document 01's starred searches and a list of calls, worked out by the definitions. No code.

@@ -1,0 +1,35 @@
+-- The list of calls is answered as it says, by computation. Assumes nothing.
+use mathlib.Core.Path.{refl}
+use lib.Ieee.{add, sub, mul, div, neg, le, lt, eq, ofBits, sum, round, size, units, isNan, toBits}
+use Rattle.blends.specs.Blends.{added, alphaOf, coefficient, endOf, knotOf, mixOf, pointOf, pointsFrom, summed}
+use Rattle.boxes.specs.Boxes.{apartBy, boundingBox, boxSize, boxesApart, secondHalved}
+use Rattle.boxes.specs.Nets.{boxOf, hasWidth, measured, measuredBox, measuredIn, outOfMeasure, room}
+use Rattle.boxes.specs.Points.{vectors}
+use Rattle.clearing.specs.Chords.{apartByNormal, chordOf, isNull, normalOf, separatedOf}
+use Rattle.clearing.specs.Extents.{apartAlong, extentOf}
+use Rattle.clearing.specs.Lines.{alongAxis, alongOneLine, isLength, isNear}
+use Rattle.clearing.specs.Verdicts.{measuredVerdict, testsOf, verdictOf}
+use Rattle.curves.specs.Curves.{piecesOf}
+use Rattle.cuts.specs.Cuts.{lerpOf, lowerPart, restOf, restricted, upperPart}
+use Rattle.facts.specs.Cover.{cutsFrom}
+use Rattle.floats.specs.Floats.{greatest, least, middle, within}
+use Rattle.floats.specs.Vectors.{dotOf, normOf}
+use Rattle.knots.specs.Knots.{between, boundsOf, flatKnots, homogeneousOf, homogeneousPoles, inside, repeated, weightOf}
+use Rattle.lines.specs.Admit.{tooLarge, validateDirection, validatePoles}
+use Rattle.lists.specs.Rounds.{firsts, paired, remains}
+use Rattle.lists.specs.Tests.{eachTwo, every, total}
+use Rattle.nets.specs.Points.{pointsOf}
+use Rattle.nets.specs.Slots.{copySlot, splitSlot}
+use Rattle.pieces.specs.Pieces.{cutTo, held, netAt, netOf, netsOf, share, spanBezier}
+use Rattle.questions.specs.Questions.{askWithin, parted, rangeFits}
+use Rattle.roots.specs.Root.{isqrt, rootIn, rootUnits, rounded}
+use Rattle.spans.specs.Spans.{backOf, clampOf, passedOf, reachOf, spanAround, spanEnd, spanOf}
+use Rattle.cases.specs.Calls.{AllAnswered, LastSlice}
+
+pub all-answered : AllAnswered
+unfolding added alongAxis alongOneLine alphaOf apartAlong apartBy apartByNormal askWithin backOf between boundingBox boundsOf boxOf boxSize boxesApart chordOf clampOf coefficient copySlot cutTo cutsFrom dotOf eachTwo endOf every extentOf firsts flatKnots greatest hasWidth held homogeneousOf homogeneousPoles inside isLength isNear isNull isqrt knotOf least lerpOf lowerPart measured measuredBox measuredIn measuredVerdict middle mixOf netAt netOf netsOf normOf normalOf outOfMeasure paired parted passedOf piecesOf pointOf pointsFrom pointsOf rangeFits reachOf remains repeated restOf restricted room rootIn rootUnits rounded secondHalved separatedOf share spanAround spanBezier spanEnd spanOf splitSlot summed testsOf tooLarge total upperPart validateDirection validatePoles vectors verdictOf weightOf within add sub mul div neg le lt eq ofBits sum round size units isNan toBits
+all-answered = refl
+
+pub last-slice : LastSlice
+unfolding added alongAxis alongOneLine alphaOf apartAlong apartBy apartByNormal askWithin backOf between boundingBox boundsOf boxOf boxSize boxesApart chordOf clampOf coefficient copySlot cutTo cutsFrom dotOf eachTwo endOf every extentOf firsts flatKnots greatest hasWidth held homogeneousOf homogeneousPoles inside isLength isNear isNull isqrt knotOf least lerpOf lowerPart measured measuredBox measuredIn measuredVerdict middle mixOf netAt netOf netsOf normOf normalOf outOfMeasure paired parted passedOf piecesOf pointOf pointsFrom pointsOf rangeFits reachOf remains repeated restOf restricted room rootIn rootUnits rounded secondHalved separatedOf share spanAround spanBezier spanEnd spanOf splitSlot summed testsOf tooLarge total upperPart validateDirection validatePoles vectors verdictOf weightOf within add sub mul div neg le lt eq ofBits sum round size units isNan toBits
+last-slice = refl
