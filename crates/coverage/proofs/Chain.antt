@@ -182,7 +182,7 @@ module _ (q : Asked) (m : Search (shape q)) (w : Memory) (N : Numbers q m) (R : 
         raw = patch-length (w .raw) (length (m .given) * 10) (flats X) (let a = room-raw in let b = add-mul (length (m .given)) (length (m .stack)) 10 in let c = flats-length X in let d : length X * 10 ≡ length (m .stack) * 10 = ap (λ (z : ℕ). z * 10) left-count in omega arith) i })
       R N
 
-abbrev reportWith : (q : Asked) → Bool → List Float → Search (shape q) → Answer
+abbrev pub reportWith : (q : Asked) → Bool → List Float → Search (shape q) → Answer
 reportWith q e slice m =
     cond (ended (shape q) m)
     (cond (e && leb (pairsOf q * suc (q .quota) * 10) (length slice))
@@ -209,7 +209,7 @@ module _ (q : Asked) (full : Sizes) where
       go true true false f g = absurd (g (f tt))
       go true true true f g = write-sim q m w N (f tt) (H (f tt)) slice
 
-  report-fields : (l : List (Node (shape q))) (se : List (Settling (shape q))) (gi : List (Node (shape q))) (vi sp un : ℕ) (st to : Bool) (w : Memory) (slice : List Float)
+  pub report-fields : (l : List (Node (shape q))) (se : List (Settling (shape q))) (gi : List (Node (shape q))) (vi sp un : ℕ) (st to : Bool) (w : Memory) (slice : List Float)
       → Numbers q (search q l se gi vi sp un st to) → (Room q (sizes w) → Held q (search q l se gi vi sp un st to) w)
       → StepSim q (reportOutcome (stateOf q (search q l se gi vi sp un st to)) (reportDef (q .geometry) (stateOf q (search q l se gi vi sp un st to)) w slice))
         (record { answer = reportWith q (enough (needed (stateOf q (start q))) (sizes w)) slice (search q l se gi vi sp un st to); search = search q l se gi vi sp un st to }) (search q l se gi vi sp un st to) w

@@ -3,7 +3,8 @@ use mathlib.Core.Path.{_≡_, refl, ap, sym, _∙_, subst}
 use mathlib.Core.Logic.{_⊎_, inl, inr}
 use mathlib.Core.List.{List, [], _∷_, map}
 use mathlib.Core.Bool.{Bool, true, false, _&&_, cond, false≢true}
-use Prim.Native.Nat.{ℕ, zero, suc, _+_, _*_, _<_}
+use Prim.Native.Nat.{ℕ, zero, suc, _+_, _*_, _≤_, _<_}
+use borrow.Author.Tests.{le-leb}
 use native.Mathlib.Omega.{arith}
 use lib.Dec.{T, leb}
 use lib.ListN.{length}
@@ -12,10 +13,12 @@ use Rattle.lists.specs.Members.{Any, All}
 use Rattle.verdicts.specs.declared.Verdict.{Verdict}
 use Rattle.verdicts.specs.declared.Verdict.the-variants.{Settled, Split, Unseparated}
 use Rattle.machine.specs.Machine.{Node, Settling, Search, limit, depth, InNode, ended, divide, advance, isSettle, hear}
+use Rattle.machine.specs.Merge.{merged}
 use Rattle.machine.specs.Covered.{SetApart, Covered, byBoxes, bySettled, byGiven, byWaiting}
 use Rattle.regions.specs.declared.Word.{Word}
 use Rattle.regions.specs.declared.Word.the-variants.{Complete}
-use Rattle.regions.specs.Reports.{wordFor}
+use Rattle.regions.specs.Regions.{merging}
+use Rattle.regions.specs.Reports.{wordFor, reportSlice}
 use Rattle.states.specs.declared.State.{State}
 use Rattle.states.specs.declared.Counts.{Counts}
 use Rattle.states.specs.States.{Memory, Sizes, sizes, needed, enough, enoughOwn, isSearch, over}
@@ -26,18 +29,19 @@ use Rattle.search.specs.Geometry.{Geometry}
 use Rattle.search.specs.Nets.{geometry}
 use Rattle.search.specs.Steps.{Stepping, stepping, stepDef, ownDef}
 use Rattle.search.specs.Runs.{carriedOut, ownStepDef, turned, runFor, runDef}
+use Rattle.report.specs.declared.Reported.{Reported}
 use Rattle.report.specs.declared.Reported.the-variants.{Told, Running, NoRoom as ReportNoRoom}
 use Rattle.report.specs.Reports.{Reporting, reporting, writeReport, reportDef}
-use Rattle.opening.specs.Asked.{Asked, shape, pieces1, pieces2, In1, In2, start, stateOf, netOf1, netOf2, openMemory}
+use Rattle.opening.specs.Asked.{Asked, shape, pieces1, pieces2, pairsOf, start, stateOf, tally, rawList, netOf1, netOf2, openMemory}
 use Rattle.opening.specs.Opens.{searchFor}
-use Rattle.coverage.specs.Calls.{Answer, stepped, Outcome, stepOutcome}
+use Rattle.coverage.specs.Calls.{Answer, stepped, reported, Outcome, stepOutcome, reportOutcome}
 use Rattle.coverage.specs.Rules.{Ruled}
-use Rattle.coverage.specs.Claim.{Fine}
-use Rattle.coverage.specs.Complete.{Ends, Passes, Clear, LoopEnds, CompleteIsClear}
+use Rattle.coverage.specs.Claim.{Fine, GoodReport}
+use Rattle.coverage.specs.Complete.{Ends, Passes, Clear, Reports, LoopEnds, CompleteIsClear, LoopReports}
 use Rattle.coverage.proofs.Refine.{Numbers, Held, RoomOwn, over-ended, StepSim, unchanged, moved, search, ruleWith, step-sim}
-use Rattle.coverage.proofs.Chain.{Inv, OwnHeld, own-fields, hear-inv}
+use Rattle.coverage.proofs.Chain.{Inv, own-fields, hear-inv, reportWith, report-fields}
 use Rattle.coverage.proofs.Opening.{open-inv}
-use Rattle.coverage.proofs.Final.{Ok, Says, Cleared, ok-advance, ok-hear, ok-start, word-exact}
+use Rattle.coverage.proofs.Final.{Ok, Cleared, ok-advance, ok-hear, ok-start, word-exact, good-report}
 use Rattle.coverage.proofs.Demand3.{opened-fresh}
 
 -- every settled node was settled on the own verdict
@@ -169,11 +173,52 @@ clear-all q m K O g l = record {
     by s t (byGiven h) = absurd (none-in (InNode (shape q) s t) (m .given) g h)
     by s t (byWaiting h) = absurd (none-in (InNode (shape q) s t) (m .stack) l h)
 
+-- ---- the report after the loop
+same-answer : (a b : Reported) (l m : List Float) → _≡_ {A = Answer} (reported a l) (reported b m) → a ≡ b
+same-answer a b l m e = cc
+
+same-slice : (a b : Reported) (l m : List Float) → _≡_ {A = Answer} (reported a l) (reported b m) → l ≡ m
+same-slice a b l m e = cc
+
+sim-answer : (q : Asked) (o : Outcome) (r : Ruled q) (m : Search (shape q)) (w : Memory) → StepSim q o r m w → o .answer ≡ r .answer
+sim-answer q o r m w (unchanged a s e f) = a
+sim-answer q o r m w (moved a s H z R N) = a
+
+module _ (q : Asked) (full : Sizes) (room : enough (needed (stateOf q (start q))) full ≡ true) (m : Search (shape q)) (w : Memory) (I : Inv q full m w) (K : Ok q m) (O : AllOwn q (m .settled)) (E : T (ended (shape q) m))
+    (slice : List Float) (fits : leb (pairsOf q * suc (q .quota) * 10) (length slice) ≡ true) where
+  told-all : _≡_ {A = Answer} (reported (reportDef (q .geometry) (stateOf q m) w slice .answer) (reportDef (q .geometry) (stateOf q m) w slice .slice))
+      (reported (Told (wordFor (length (m .given)) (length (m .stack))) (tally q m) (length (merged merging (rawList q m)))) (reportSlice (length (m .given) + length (m .stack)) (merged merging (rawList q m)) slice))
+  told-all =
+      let o = reportOutcome (stateOf q m) (reportDef (q .geometry) (stateOf q m) w slice) in
+      let S = report-fields q full (m .stack) (m .settled) (m .given) (m .visits) (m .splits) (m .unspent) (m .stopped) (m .told) w slice (I .numbers) (λ R. I .held) in
+      sim-answer q o (record { answer = reportWith q (enough (needed (stateOf q (start q))) (sizes w)) slice m; search = m }) m w S
+      ∙ go (ended (shape q) m) (enough (needed (stateOf q (start q))) (sizes w)) (leb (pairsOf q * suc (q .quota) * 10) (length slice)) E (ap (enough (needed (stateOf q (start q)))) (I .lengths) ∙ room) fits
+    where
+      go : (a b c : Bool) → T a → b ≡ true → c ≡ true
+          → cond {A = Answer} a (cond (b && c) (reported (Told (wordFor (length (m .given)) (length (m .stack))) (tally q m) (length (merged merging (rawList q m)))) (reportSlice (length (m .given) + length (m .stack)) (merged merging (rawList q m)) slice)) (reported ReportNoRoom slice)) (reported Running slice)
+            ≡ reported (Told (wordFor (length (m .given)) (length (m .stack))) (tally q m) (length (merged merging (rawList q m)))) (reportSlice (length (m .given) + length (m .stack)) (merged merging (rawList q m)) slice)
+      go true true true t e f = refl
+      go true true false t e f = absurd (false≢true f)
+      go true false c t e f = absurd (false≢true e)
+      go false b c t e f = absurd t
+
+  reports-all : Reports q (reportDef (q .geometry) (stateOf q m) w slice)
+  reports-all = record {
+      search = m; word = wordFor (length (m .given)) (length (m .stack)); counts = tally q m; regions = length (merged merging (rawList q m));
+      told = same-answer _ _ _ _ told-all;
+      good = subst (λ (l : List Float). GoodReport q m (wordFor (length (m .given)) (length (m .stack))) (tally q m) (length (merged merging (rawList q m))) l) (sym (same-slice _ _ _ _ told-all)) (good-report q m slice K E);
+      settled = each (m .settled) (K .cleared) O }
+    where
+      each : (l : List (Settling (shape q))) → All (Cleared q) l → AllOwn q l → All (λ (e : Settling (shape q)). Passes q (e .node)) l
+      each [] c o = tt
+      each (e ∷ l) c o = (c .0 (o .0), each l (c .1) (o .1))
+
 -- ---- the loop's claims
 abbrev Claims : (q : Asked) → State → Memory → Type 0
 Claims q x u =
     Ends (runDef (q .geometry) x u)
     × ((y : State) → runDef (q .geometry) x u .answer ≡ Next y → (slice : List Float) (c : Counts) (k : ℕ) → reportDef (q .geometry) y (runDef (q .geometry) x u .memory) slice .answer ≡ Told Complete c k → Clear q)
+    × ((y : State) → runDef (q .geometry) x u .answer ≡ Next y → (slice : List Float) → x .pairs * suc (x .quota) * 10 ≤ length slice → Reports q (reportDef (q .geometry) y (runDef (q .geometry) x u .memory) slice))
 
 same-next : (x y : State) → Next x ≡ Next y → x ≡ y
 same-next x y e = cc
@@ -191,10 +236,18 @@ module _ (q : Asked) (u : Memory) (F : Fine q) (room : T (enough (needed (stateO
         let s = same-next y (stateOf q (L .last)) (sym e ∙ L .answer) in
         let w = told-word (q .geometry) y (runDef (q .geometry) (stateOf q (start q)) (openMemory q u) .memory) slice Complete c k r in
         let z = word-exact (length (L .last .given)) (length (L .last .stack)) .0 (subst (λ (x : State). wordFor (x .given) (x .waiting) ≡ Complete) s w) in
-        clear-all q (L .last) (L .ok) (L .own) (z .0) (z .1))
+        clear-all q (L .last) (L .ok) (L .own) (z .0) (z .1),
+       λ y e slice h.
+        let s = same-next y (stateOf q (L .last)) (sym e ∙ L .answer) in
+        let w = runDef (q .geometry) (stateOf q (start q)) (openMemory q u) .memory in
+        subst (λ (x : State). Reports q (reportDef (q .geometry) x w slice)) (sym s)
+        (reports-all q (sizes u) (is-true (enough (needed (stateOf q (start q))) (sizes u)) room) (L .last) w (L .inv) (L .ok) (L .own) (L .finished) slice (le-leb (pairsOf q * suc (q .quota) * 10) (length slice) h)))
 
 pub loop-ends : LoopEnds
 loop-ends q p1 p2 u x e = opened-fresh q p1 p2 u x (λ (y : State) (m : Memory). Claims (searchFor q) y m) (loop-claims (searchFor q) u) e .0
 
 pub complete-is-clear : CompleteIsClear
 complete-is-clear q p1 p2 u x y e r = opened-fresh q p1 p2 u x (λ (y : State) (m : Memory). Claims (searchFor q) y m) (loop-claims (searchFor q) u) e .1 y r
+
+pub loop-reports : LoopReports
+loop-reports q p1 p2 u x y e r = opened-fresh q p1 p2 u x (λ (y : State) (m : Memory). Claims (searchFor q) y m) (loop-claims (searchFor q) u) e .2 y r

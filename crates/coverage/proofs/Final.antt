@@ -248,7 +248,7 @@ slice-reads n out slice =
     let rest = drop (0 + length (flats out ++ z)) slice in
     ap (take (length out * 10)) (append-assoc (flats out) z rest) ∙ take-at (flats out) (z ++ rest) (length out * 10) (flats-length out)
 
-good-report : (q : Asked) (m : Search (shape q)) (slice : List Float) → Ok q m → T (ended (shape q) m)
+pub good-report : (q : Asked) (m : Search (shape q)) (slice : List Float) → Ok q m → T (ended (shape q) m)
     → GoodReport q m (wordFor (length (m .given)) (length (m .stack))) (tally q m) (length (merged merging (rawList q m))) (reportSlice (length (m .given) + length (m .stack)) (merged merging (rawList q m)) slice)
 good-report q m slice k e =
     let raws = rawList q m in
