@@ -1,0 +1,25 @@
+-- A number in decimal digits, as many as it has. Assumes nothing.
+use borrow.Author.Needs.{needs}
+use native.Mathlib.Omega.{arith}
+use Rattle.texts.proofs.Laws.{decimal-is, decimal-length}
+use Rattle.texts.proofs.put_decimal.Statement.{statement}
+use Rattle.texts.proofs.put_decimal.Tie as tie
+
+places-requires : tie.Need-places-requires
+places-requires c κs = search needs
+
+put-digits-requires : tie.Need-put-digits-requires
+put-digits-requires c κs = search needs
+
+add-result : tie.Need-add-result
+add-result c = search needs
+
+same-length : tie.Need-same-length
+same-length c = search needs
+
+returns : tie.Need-returns
+returns c = (omega (arith, decimal-length (c .before .before .before .before .before .before .args .n), c .before .before .before .before .places .ensures .0), decimal-is (c .before .before .before .before .before .before .args .out .now) (c .before .before .before .before .before .before .args .at) (c .before .before .before .before .places .result) (c .before .before .before .before .before .before .args .n) (c .before .before .before .before .places .ensures .0) (c .before .before .put-digits .ensures))
+
+pub put-decimal-spec : {M : Type 1} → statement M
+put-decimal-spec =
+    tie.close (tie.spec places-requires put-digits-requires add-result same-length returns)

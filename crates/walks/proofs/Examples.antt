@@ -1,0 +1,69 @@
+-- Sheets walked by computation: the paper's example, and small ones with one fault each. Assumes nothing.
+use mathlib.Core.Path.{_≡_, refl}
+use mathlib.Core.List.{List, [], _∷_, _++_}
+use Prim.Native.Nat.{ℕ, _+_, _*_, _/_, _%_}
+use lib.Ieee.{Float, binary64, ofBits}
+use Rattle.walks.specs.Words.{wordAt, floatAt, wordsFrom, floatsFrom}
+use Rattle.walks.specs.Sheets.{Line, Sheet, Walked, walked, refusedAs, badLength, badCount, sizeOf, partOf, weightsOf, lineOf, walkOf}
+
+-- words as bytes; a word of kind k and count n; the floats 0 and 1 as words
+abbrev bytes : List ℕ → List ℕ
+bytes [] = []
+bytes (w ∷ l) = w % 256 ∷ w / 256 % 256 ∷ w / 65536 % 256 ∷ w / 16777216 ∷ bytes l
+
+abbrev head : ℕ → ℕ → ℕ
+head k n = k * 268435456 + n
+
+abbrev nought : List ℕ
+nought = 0 ∷ 0 ∷ []
+
+abbrev one : List ℕ
+one = 0 ∷ 0x3ff00000 ∷ []
+
+-- the line (0,0,0) to (1,0,0), degree 1, knots 0 and 1 doubled
+abbrev straight : List ℕ
+straight = (head 1 1 ∷ head 2 2 ∷ []) ++ nought ++ one ++ (head 3 2 ∷ 2 ∷ 2 ∷ head 4 2 ∷ []) ++ nought ++ nought ++ nought ++ one ++ nought ++ nought
+
+abbrev zeroF : Float
+zeroF = ofBits binary64 0
+
+abbrev oneF : Float
+oneF = ofBits binary64 0x3ff0000000000000
+
+abbrev line : Line
+line = record { degree = 1; knots = zeroF ∷ oneF ∷ []; mults = 2 ∷ 2 ∷ []; coords = zeroF ∷ zeroF ∷ zeroF ∷ oneF ∷ zeroF ∷ zeroF ∷ []; weights = [] }
+
+-- "given twice, whole ranges, gap 0, S 0"
+pub given-twice : walkOf (bytes (straight ++ straight ++ (head 6 0 ∷ []) ++ nought ++ one ++ nought ++ one ++ nought ++ (head 7 0 ∷ [])))
+    ≡ walked (record { first = line; second = line; splits = 0; lo1 = zeroF; hi1 = oneF; lo2 = zeroF; hi2 = oneF; gap = zeroF })
+unfolding walkOf lineOf weightsOf partOf sizeOf badCount badLength floatsFrom wordsFrom floatAt wordAt ofBits
+given-twice = refl
+
+-- the first word of another kind, with a count that nothing could meet: 2
+pub kind-first : walkOf (bytes (head 2 0xfffffff ∷ [])) ≡ refusedAs 2
+unfolding walkOf lineOf weightsOf partOf sizeOf badCount badLength floatsFrom wordsFrom floatAt wordAt
+kind-first = refl
+
+-- poles of a count whose 24-fold needs 33 bits: 3
+pub huge-count : walkOf (bytes (head 1 1 ∷ head 2 0 ∷ head 3 0 ∷ head 4 0xfffffff ∷ [])) ≡ refusedAs 3
+unfolding walkOf lineOf weightsOf partOf sizeOf badCount badLength floatsFrom wordsFrom floatAt wordAt
+huge-count = refl
+
+-- weights of count 0 as the last word: 2
+pub no-weight : walkOf (bytes (head 1 1 ∷ head 2 0 ∷ head 3 0 ∷ head 4 0 ∷ head 5 0 ∷ [])) ≡ refusedAs 2
+unfolding walkOf lineOf weightsOf partOf sizeOf badCount badLength floatsFrom wordsFrom floatAt wordAt
+no-weight = refl
+
+-- the second line is missing: 3
+pub one-line : walkOf (bytes straight) ≡ refusedAs 3
+unfolding walkOf lineOf weightsOf partOf sizeOf badCount badLength floatsFrom wordsFrom floatAt wordAt
+one-line = refl
+
+-- an end word of count 1 with a word behind it: 2; of count 0: 3
+pub end-counts : walkOf (bytes (straight ++ straight ++ (head 6 0 ∷ []) ++ nought ++ one ++ nought ++ one ++ nought ++ (head 7 1 ∷ 0 ∷ []))) ≡ refusedAs 2
+unfolding walkOf lineOf weightsOf partOf sizeOf badCount badLength floatsFrom wordsFrom floatAt wordAt
+end-counts = refl
+
+pub word-behind : walkOf (bytes (straight ++ straight ++ (head 6 0 ∷ []) ++ nought ++ one ++ nought ++ one ++ nought ++ (head 7 0 ∷ 0 ∷ []))) ≡ refusedAs 3
+unfolding walkOf lineOf weightsOf partOf sizeOf badCount badLength floatsFrom wordsFrom floatAt wordAt
+word-behind = refl

@@ -1,0 +1,17 @@
+-- The number so far, or the test of the end's place. Assumes nothing.
+use lib.ListN.{length}
+use borrow.Author.Tests.{eq-eqb, ne-eqb}
+use Rattle.walks.proofs.tail_no.Statement.{statement}
+use Rattle.walks.proofs.tail_no.Tie as tie
+
+returns : tie.Need-returns
+returns c = simp (ne-eqb (c .before .args .no) 0 (c .if1 .taken))
+
+returns-2 : tie.Need-returns-2
+returns-2 c = simp (eq-eqb (c .before .before .args .no) 0 (c .before .if1 .left), ne-eqb (c .before .before .args .next) (length (c .before .before .args .s .now)) (c .if2 .taken))
+
+returns-3 : tie.Need-returns-3
+returns-3 c = simp (eq-eqb (c .before .before .args .no) 0 (c .before .if1 .left), eq-eqb (c .before .before .args .next) (length (c .before .before .args .s .now)) (c .if2 .left))
+
+pub tail-no-spec : {M : Type 1} → statement M
+tail-no-spec = tie.close (tie.spec returns returns-2 returns-3)

@@ -1,0 +1,46 @@
+-- Weights, by the word that stands there: refused before, a weights word, another word, or none. Assumes nothing.
+use borrow.Author.Needs.{needs}
+use native.Mathlib.Omega.{arith}
+use Rattle.walks.specs.Sheets.{partOf, weightsOf, sizeOf}
+use Rattle.walks.proofs.Walks.{before-refused, taken, taken-over, weights-there, weights-absent, weights-at-end}
+use Rattle.walks.proofs.weights_after.Statement.{statement}
+use Rattle.walks.proofs.weights_after.Tie as tie
+
+no-part-requires : tie.Need-no-part-requires
+no-part-requires c κs = search needs
+
+returns : tie.Need-returns
+returns c = before-refused (c .before .before .before .args .s .now) (c .before .before .before .args .no) (weightsOf (c .before .before .before .args .s .now) (c .before .before .before .args .at)) (sizeOf 5) (c .no-part .result) (c .no-part .ensures) (c .before .if1 .taken)
+
+sub-if2 : tie.Need-sub-if2
+sub-if2 c = search needs
+
+word-requires : tie.Need-word-requires
+word-requires c κs = search needs
+
+part-after-requires : tie.Need-part-after-requires
+part-after-requires c κs = search needs
+
+returns-2 : tie.Need-returns-2
+returns-2 c = taken-over (c .before .before .before .before .before .before .args .s .now) (c .before .before .before .before .before .before .args .no) (weightsOf (c .before .before .before .before .before .before .args .s .now) (c .before .before .before .before .before .before .args .at)) (partOf (c .before .before .before .before .before .before .args .s .now) 5 (c .before .before .before .before .before .before .args .at)) (sizeOf 5) (c .part-after .result) (c .before .before .before .before .if1 .left) (weights-there (c .before .before .before .before .before .before .args .s .now) (c .before .before .before .before .before .before .args .at) (c .before .before .word .result) (c .before .before .word .ensures .0) (c .before .before .before .if2 .taken) (c .before .if3 .taken)) (c .part-after .ensures)
+
+returns-3 : tie.Need-returns-3
+unfolding sizeOf
+returns-3 c = taken (c .before .before .before .before .before .args .s .now) (c .before .before .before .before .before .args .no) (weightsOf (c .before .before .before .before .before .args .s .now) (c .before .before .before .before .before .args .at)) (sizeOf 5) 0 (c .before .before .before .before .before .args .at) (c .before .before .before .before .before .args .at) (c .before .before .before .if1 .left) (weights-absent (c .before .before .before .before .before .args .s .now) (c .before .before .before .before .before .args .at) (c .before .word .result) (c .before .word .ensures .0) (c .before .before .if2 .taken) (c .if3 .left)) (search needs) (search needs) (omega arith)
+
+returns-4 : tie.Need-returns-4
+unfolding sizeOf
+returns-4 c = taken (c .before .before .before .args .s .now) (c .before .before .before .args .no) (weightsOf (c .before .before .before .args .s .now) (c .before .before .before .args .at)) (sizeOf 5) 0 (c .before .before .before .args .at) (c .before .before .before .args .at) (c .before .if1 .left) (weights-at-end (c .before .before .before .args .s .now) (c .before .before .before .args .at) (search needs) (c .if2 .left)) (search needs) (search needs) (omega arith)
+
+pub weights-after-spec : {M : Type 1} → statement M
+weights-after-spec =
+    tie.close
+    (tie.spec
+    no-part-requires
+    returns
+    sub-if2
+    word-requires
+    part-after-requires
+    returns-2
+    returns-3
+    returns-4)

@@ -1,0 +1,3 @@
+pub mod Words
+pub mod Sheets
+pub mod Places

@@ -1,0 +1,79 @@
+-- What a sheet says, or with which of the table's numbers 1, 2 and 3 it is refused. Definitions only.
+use Prim.Native.Nat.{ℕ, _+_, _*_, _%_}
+use mathlib.Core.Bool.{Bool, cond, not, _&&_, _||_}
+use mathlib.Core.List.{List}
+use lib.Dec.{ltb, eqb}
+use lib.ListN.{length}
+use lib.Ieee.{Float}
+use Rattle.walks.specs.Words.{wordAt, kindOf, countOf, floatAt, wordsFrom, floatsFrom}
+
+-- a line: its degree, knots, multiplicities, poles as x, y, z in turn, and weights, none of which there may be
+pub record Line : Type 0 where
+  pub degree : ℕ
+  pub knots : List Float
+  pub mults : List ℕ
+  pub coords : List Float
+  pub weights : List Float
+
+-- two lines and the question: S, a range of each line, and the gap
+pub record Sheet : Type 0 where
+  pub first : Line
+  pub second : Line
+  pub splits : ℕ
+  pub lo1 : Float
+  pub hi1 : Float
+  pub lo2 : Float
+  pub hi2 : Float
+  pub gap : Float
+
+-- what `walk` finds: a sheet, or the number that refuses it
+pub data Walked : Type 0 where
+  walked : Sheet → Walked
+  refusedAs : ℕ → Walked
+
+-- number 1: "its length is 0, no multiple of 4, or over 16,384 bytes" (`length_no`)
+unfoldable pub badLength : ℕ → Bool
+badLength n = eqb n 0 || (not (eqb (n % 4) 0) || ltb 16384 n)
+
+-- number 2: "the weights count is 0, or the end word's count isn't 0" (`bad_count`)
+unfoldable pub badCount : ℕ → ℕ → Bool
+badCount kind n = (eqb kind 5 && eqb n 0) || (eqb kind 7 && not (eqb n 0))
+
+-- the bytes behind a word of this kind and count N: knots and weights "N floats", multiplicities "N words", poles "N times x, y, z", question five floats (`size`)
+unfoldable pub sizeOf : ℕ → ℕ → ℕ
+sizeOf kind n = cond (eqb kind 2 || eqb kind 5) (8 * n) (cond (eqb kind 3) (4 * n) (cond (eqb kind 4) (24 * n) (cond (eqb kind 6) 40 0)))
+
+-- The part of this kind whose word stands at place `at` (`part_after`); `go` is what follows, given the word's count, where the counted part starts, and the place behind it.
+-- In turn: 3, "an expected word is missing"; 2, "the next word's kind is out of order"; 2, its count is bad; 3, "a counted part is missing".
+unfoldable pub partOf : List ℕ → ℕ → ℕ → (ℕ → ℕ → ℕ → Walked) → Walked
+partOf s kind at go =
+    cond (ltb (length s) (at + 4)) (refusedAs 3)
+    (cond (not (eqb (kindOf (wordAt s at)) kind)) (refusedAs 2)
+    (cond (badCount kind (countOf (wordAt s at))) (refusedAs 2)
+    (cond (ltb (length s) (at + 4 + sizeOf kind (countOf (wordAt s at)))) (refusedAs 3)
+    (go (countOf (wordAt s at)) (at + 4) (at + 4 + sizeOf kind (countOf (wordAt s at)))))))
+
+-- "5 weights (N floats, may be absent)": none where the next word is no weights word, or no word is left (`weights_after`)
+unfoldable pub weightsOf : List ℕ → ℕ → (ℕ → ℕ → ℕ → Walked) → Walked
+weightsOf s at go = cond (not (ltb (length s) (at + 4)) && eqb (kindOf (wordAt s at)) 5) (partOf s 5 at go) (go 0 at at)
+
+-- "In order: 1 line (N the degree); 2 knots; 3 multiplicities; 4 poles; 5 weights", from place `at` on (`line_after`); `go` is what follows, given the line and the place behind it
+unfoldable pub lineOf : List ℕ → ℕ → (Line → ℕ → Walked) → Walked
+lineOf s at go =
+    partOf s 1 at (λ degree here a.
+    partOf s 2 a (λ k knots b.
+    partOf s 3 b (λ m mults c.
+    partOf s 4 c (λ p poles d.
+    weightsOf s d (λ w weights e.
+    go (record { degree = degree; knots = floatsFrom s knots k; mults = wordsFrom s mults m; coords = floatsFrom s poles (3 * p); weights = floatsFrom s weights w }) e)))))
+
+-- The length, the first line, "the second line likewise; 6 question (N is S; then lo, hi, lo, hi, gap as floats); 7 end"; 3 where "words follow the end" (`walk`)
+unfoldable pub walkOf : List ℕ → Walked
+walkOf s =
+    cond (badLength (length s)) (refusedAs 1)
+    (lineOf s 0 (λ first a.
+    lineOf s a (λ second b.
+    partOf s 6 b (λ n q c.
+    partOf s 7 c (λ none here d.
+    cond (not (eqb d (length s))) (refusedAs 3)
+    (walked (record { first = first; second = second; splits = n; lo1 = floatAt s q; hi1 = floatAt s (q + 8); lo2 = floatAt s (q + 16); hi2 = floatAt s (q + 24); gap = floatAt s (q + 32) })))))))

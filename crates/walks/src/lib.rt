@@ -1,0 +1,252 @@
+// Words and floats out of bytes, and where the parts of a sheet stand.
+ghost use mathlib.Core.Bool.{cond};
+ghost use mathlib.Core.Path.{_≡_};
+ghost use Prim.Native.Nat.{_+_, _*_, _<_, _≤_};
+ghost use lib.Dec.{eqb};
+ghost use lib.ListN.{length};
+ghost use lib.Ieee.{binary64, ofBits};
+ghost use Rattle.lists.specs.Parts.{patch};
+ghost use Rattle.walks.specs.Words.{wordAt, floatAt, wordsFrom, floatsFrom};
+ghost use Rattle.walks.specs.Sheets.{walked, badCount, badLength, sizeOf, partOf, weightsOf, walkOf};
+ghost use Rattle.walks.specs.Places.{unless, sheetIn, PartFits, LineFits, SheetInside};
+
+// A counted part: the number that refuses the sheet or 0, the count in its word, where it starts, and the place behind it.
+pub struct Part {
+    pub no: u8,
+    pub count: usize,
+    pub at: usize,
+    pub next: usize,
+}
+
+// The parts of a line.
+pub struct Line {
+    pub no: u8,
+    pub degree: u32,
+    pub knots: Part,
+    pub mults: Part,
+    pub poles: Part,
+    pub weights: Part,
+    pub next: usize,
+}
+
+// The parts of a sheet; the question's five floats start at `asked`.
+pub struct Sheet {
+    pub no: u8,
+    pub first: Line,
+    pub second: Line,
+    pub splits: u32,
+    pub asked: usize,
+}
+
+fn wide(x: u8) -> u32
+    ensures { λ r. ⌜ (r ≡ x) × (r < 256) ⌝ }
+{
+    x as u32
+}
+
+pub fn word(s: &[u8], at: usize) -> u32
+    requires { ⌜ at + 4 ≤ length (now s) ⌝ }
+    ensures { λ r. ⌜ (r ≡ wordAt (now (s .entry)) at) × (r < 4294967296) ⌝ }
+{
+    wide(s[at]) + wide(s[at + 1]) * 256 + wide(s[at + 2]) * 65536 + wide(s[at + 3]) * 16777216
+}
+
+// The float of any pattern: a NaN's pattern is never handed to `from_bits`.
+pub fn float(n: u64) -> f64
+    ensures { λ r. ⌜ r ≡ ofBits binary64 n ⌝ }
+{
+    if n % 0x8000_0000_0000_0000 > 0x7ff0_0000_0000_0000 {
+        return 0.0 / 0.0;
+    }
+    f64::from_bits(n)
+}
+
+pub fn float_at(s: &[u8], at: usize) -> f64
+    requires { ⌜ at + 8 ≤ length (now s) ⌝ }
+    ensures { λ r. ⌜ r ≡ floatAt (now (s .entry)) at ⌝ }
+{
+    let low = word(s, at) as u64;
+    let high = word(s, at + 4) as u64;
+    float(low + high * 4294967296)
+}
+
+// The first `n` of `out` become the floats from `at` on.
+pub fn read_floats(s: &[u8], at: usize, n: usize, out: &mut [f64])
+    requires { ⌜ (at + 8 * n ≤ length (now s)) × (n ≤ length (now out)) ⌝ }
+    ensures { λ r. ⌜ now (out .exit) ≡ patch (now (out .entry)) 0 (floatsFrom (now (s .entry)) at n) ⌝ }
+{
+    let mut i = 0usize;
+    while i < n {
+        out[i] = float_at(s, at + 8 * i);
+        i += 1;
+    }
+}
+
+// The first `n` of `out` become the words from `at` on.
+pub fn read_words(s: &[u8], at: usize, n: usize, out: &mut [u32])
+    requires { ⌜ (at + 4 * n ≤ length (now s)) × (n ≤ length (now out)) ⌝ }
+    ensures { λ r. ⌜ now (out .exit) ≡ patch (now (out .entry)) 0 (wordsFrom (now (s .entry)) at n) ⌝ }
+{
+    let mut i = 0usize;
+    while i < n {
+        out[i] = word(s, at + 4 * i);
+        i += 1;
+    }
+}
+
+// Whether a word of this kind may not have this count.
+fn bad_count(kind: u32, n: usize) -> bool
+    ensures { λ r. ⌜ r ≡ badCount kind n ⌝ }
+{
+    match kind {
+        5 => n == 0,
+        7 => n != 0,
+        _ => false,
+    }
+}
+
+// The bytes that follow a word of this kind and count.
+fn size(kind: u32, n: usize) -> usize
+    requires { ⌜ n < 268435456 ⌝ }
+    ensures { λ r. ⌜ (r ≡ sizeOf kind n) × (r < 6442450944) ⌝ }
+{
+    match kind {
+        2 | 5 => 8 * n,
+        3 => 4 * n,
+        4 => 24 * n,
+        6 => 40,
+        _ => 0,
+    }
+}
+
+fn no_part(no: u8) -> Part
+    ensures { λ r. ⌜ (r .no ≡ no) × (r .count ≡ 0) × (r .next ≡ 0) ⌝ }
+{
+    Part {
+        no,
+        count: 0,
+        at: 0,
+        next: 0,
+    }
+}
+
+// The part of this kind at `at`, unless the sheet was refused before.
+fn part_after(s: &[u8], no: u8, at: usize, kind: u32) -> Part
+    requires { ⌜ at ≤ length (now s) ⌝ }
+    ensures { λ r. ⌜ PartFits (now (s .entry)) no (partOf (now (s .entry)) kind at) (sizeOf kind) r ⌝ }
+{
+    if no != 0 {
+        return no_part(no);
+    }
+    if s.len() - at < 4 {
+        return no_part(3);
+    }
+    let w = word(s, at);
+    let count = (w % 268435456) as usize;
+    if w / 268435456 != kind {
+        return no_part(2);
+    }
+    if bad_count(kind, count) {
+        return no_part(2);
+    }
+    let from = at + 4;
+    let room = size(kind, count);
+    if s.len() - from < room {
+        return no_part(3);
+    }
+    Part {
+        no: 0,
+        count,
+        at: from,
+        next: from + room,
+    }
+}
+
+// The weights at `at`, an empty part where another word stands.
+fn weights_after(s: &[u8], no: u8, at: usize) -> Part
+    requires { ⌜ at ≤ length (now s) ⌝ }
+    ensures { λ r. ⌜ PartFits (now (s .entry)) no (weightsOf (now (s .entry)) at) (sizeOf 5) r ⌝ }
+{
+    if no != 0 {
+        return no_part(no);
+    }
+    if s.len() - at >= 4 {
+        if word(s, at) / 268435456 == 5 {
+            return part_after(s, 0, at, 5);
+        }
+    }
+    Part {
+        no: 0,
+        count: 0,
+        at,
+        next: at,
+    }
+}
+
+// The line at `at`, unless the sheet was refused before.
+fn line_after(s: &[u8], no: u8, at: usize) -> Line
+    requires { ⌜ at ≤ length (now s) ⌝ }
+    ensures { λ r. ⌜ LineFits (now (s .entry)) no at r ⌝ }
+{
+    let degree = part_after(s, no, at, 1);
+    let knots = part_after(s, degree.no, degree.next, 2);
+    let mults = part_after(s, knots.no, knots.next, 3);
+    let poles = part_after(s, mults.no, mults.next, 4);
+    let weights = weights_after(s, poles.no, poles.next);
+    Line {
+        no: weights.no,
+        degree: degree.count as u32,
+        knots,
+        mults,
+        poles,
+        weights,
+        next: weights.next,
+    }
+}
+
+// The number of a sheet whose length is wrong, else 0.
+fn length_no(n: usize) -> u8
+    ensures { λ r. ⌜ r ≡ cond (badLength n) 1 0 ⌝ }
+{
+    if n == 0 {
+        return 1;
+    }
+    if n % 4 != 0 {
+        return 1;
+    }
+    if n > 16384 {
+        return 1;
+    }
+    0
+}
+
+// The number of a sheet whose end word stands before `next`.
+fn tail_no(s: &[u8], no: u8, next: usize) -> u8
+    ensures { λ r. ⌜ r ≡ cond (eqb no 0) (cond (eqb next (length (now (s .entry)))) 0 3) no ⌝ }
+{
+    if no != 0 {
+        return no;
+    }
+    if next != s.len() {
+        return 3;
+    }
+    0
+}
+
+// The parts of any bytes that are a sheet, or the number that refuses them.
+pub fn walk(s: &[u8]) -> Sheet
+    ensures { λ r. ⌜ walkOf (now (s .entry)) ≡ unless (r .no) (walked (sheetIn (now (s .entry)) r)) ⌝ }
+    ensures { λ r. ⌜ (r .no ≡ 0 → SheetInside (length (now (s .entry))) r) ⌝ }
+{
+    let first = line_after(s, length_no(s.len()), 0);
+    let second = line_after(s, first.no, first.next);
+    let question = part_after(s, second.no, second.next, 6);
+    let end = part_after(s, question.no, question.next, 7);
+    Sheet {
+        no: tail_no(s, end.no, end.next),
+        first,
+        second,
+        splits: question.count as u32,
+        asked: question.at,
+    }
+}
