@@ -1,0 +1,84 @@
+-- The sheet program: what is printed for a sheet's bytes (document 01, "Sheet program"). Definitions only.
+use Prim.Native.Nat.{ℕ, _+_}
+use mathlib.Core.List.{List, _++_}
+use lib.ListN.{replicate}
+use lib.Ieee.{Float}
+use Rattle.floats.specs.Floats.{zero64}
+use Rattle.facts.specs.Faults.{Line, Question}
+use Rattle.walks.specs.Words.{floatAt}
+use Rattle.walks.specs.Sheets as walks
+use Rattle.walks.specs.Sheets.{Walked, walked, refusedAs, walkOf}
+use Rattle.states.specs.declared.State.{State}
+use Rattle.states.specs.States.{Memory, memory}
+use Rattle.search.specs.declared.Stepped.{Stepped}
+use Rattle.search.specs.declared.Stepped.the-variants.{Next, Ended, NoRoom}
+use Rattle.search.specs.Nets.{geometry}
+use Rattle.search.specs.Steps.{steppedNumber}
+use Rattle.search.specs.Runs.{runDef}
+use Rattle.report.specs.declared.Reported.{Reported}
+use Rattle.report.specs.declared.Reported.the-variants.{Told, Running, NoRoom as NoReportRoom}
+use Rattle.report.specs.Reports.{reportedNumber, reportDef}
+use Rattle.opening.specs.declared.Question.{Question as Asking}
+use Rattle.opening.specs.declared.Opened.{Opened}
+use Rattle.opening.specs.declared.Opened.the-variants.{Open, BadLine, BadQuestion, NoRoom as NoOpenRoom}
+use Rattle.opening.specs.Opens.{openedNumber, openedLine, lineOf, openDef}
+use Rattle.sheet.specs.Printed.{countLine, regionLines, refusalLine}
+
+-- ---- "It lends 8,112 floats a line for pieces, 7,904 a line for nets, 304 for ranges, 76 depths, 8,190 each for raw and report": zeros
+unfoldable pub zeros : ℕ → List Float
+zeros n = replicate n zero64
+
+unfoldable pub zeroDepths : List ℕ
+zeroDepths = replicate 76 0
+
+abbrev pub lent : Memory
+lent = memory (zeros 7904) (zeros 7904) (zeros 304) zeroDepths (zeros 8190)
+
+-- ---- what each answer prints: a report its lines, a refusal the paper's number
+abbrev pub reportedText : Reported → List Float → List ℕ
+reportedText (Told w c n) list = countLine w c n ++ regionLines n list
+reportedText Running list = refusalLine (reportedNumber Running) 0
+reportedText NoReportRoom list = refusalLine (reportedNumber NoReportRoom) 0
+
+-- the report of a search that has ended (`answer_report`)
+unfoldable pub reportText : State → Memory → List Float → List ℕ
+reportText x u list = let o = reportDef geometry x u list in reportedText (o .answer) (o .slice)
+
+abbrev pub steppedText : Stepped → Memory → List Float → List ℕ
+steppedText (Next x) u list = reportText x u list
+steppedText Ended u list = refusalLine (steppedNumber Ended) 0
+steppedText NoRoom u list = refusalLine (steppedNumber NoRoom) 0
+
+-- "a loop above, which the sheet program runs, that gives each step the search's own verdict until the search ends", then the report (`answer_search`)
+unfoldable pub searchText : State → Memory → List Float → List ℕ
+searchText x u list = let o = runDef geometry x u in steppedText (o .answer) (o .memory) list
+
+abbrev pub openedText : Opened → Memory → List Float → List ℕ
+openedText (Open x) u list = searchText x u list
+openedText (BadLine line a) u list = refusalLine (openedNumber (BadLine line a)) (openedLine (BadLine line a))
+openedText (BadQuestion a) u list = refusalLine (openedNumber (BadQuestion a)) (openedLine (BadQuestion a))
+openedText NoOpenRoom u list = refusalLine (openedNumber NoOpenRoom) (openedLine NoOpenRoom)
+
+-- two lines and the question, opened on the lent memory (`answer_lines`)
+unfoldable pub linesText : Question → List ℕ
+linesText q = let o = openDef q (zeros 8112) (zeros 8112) lent in openedText (o .answer) (o .memory) (zeros 8190)
+
+-- ---- the sheet
+abbrev pub lineIn : walks.Line → Line
+lineIn l = lineOf (l .degree) (l .knots) (l .mults) (l .coords) (l .weights)
+
+abbrev pub questionIn : walks.Sheet → Question
+questionIn x = record { line1 = lineIn (x .first); lo1 = x .lo1; hi1 = x .hi1; line2 = lineIn (x .second); lo2 = x .lo2; hi2 = x .hi2; gap = x .gap; splits = x .splits }
+
+-- "6 question (N is S; then lo, hi, lo, hi, gap as floats)", the floats at place `at` (`question_at`)
+unfoldable pub askingAt : List ℕ → ℕ → ℕ → Asking
+askingAt s at n = record { lo1 = floatAt s at; hi1 = floatAt s (at + 8); lo2 = floatAt s (at + 16); hi2 = floatAt s (at + 24); gap = floatAt s (at + 32); splits = n }
+
+-- "The sheet is walked whole before 4"
+abbrev pub walkedText : Walked → List ℕ
+walkedText (walked x) = linesText (questionIn x)
+walkedText (refusedAs n) = refusalLine n 0
+
+-- from the bytes on standard input to those on standard output (`answer`)
+unfoldable pub answerOf : List ℕ → List ℕ
+answerOf s = walkedText (walkOf s)

@@ -1,0 +1,364 @@
+// The sheet program's answer: the sheet's lines, the search, and what is printed.
+ghost use mathlib.Core.Path.{_≡_};
+ghost use Prim.Native.Nat.{_+_, _*_, _≤_};
+ghost use lib.ListN.{length};
+ghost use Rattle.lists.specs.Parts.{patch};
+ghost use Rattle.lines.specs.Admit.{admissionNumber};
+ghost use Rattle.questions.specs.Questions.{askedNumber, askedLine};
+ghost use Rattle.opening.specs.Opens.{lineOf, questionOf};
+ghost use Rattle.states.specs.States.{memory};
+ghost use Rattle.walks.specs.Places.{lineIn as walkedLine, LineInside};
+ghost use Rattle.sheet.specs.Printed.{counted, wordText, stepsText, nodesText, countLine, floatTexts, regionLine, regionLines, refusalLine};
+ghost use Rattle.sheet.specs.Answers.{zeros, zeroDepths, reportText, searchText, linesText, lineIn, askingAt, answerOf};
+use lines::Admission;
+use opening::Opened;
+use opening::Question;
+use questions::Asked;
+use regions::Word;
+use report::Reported;
+use search::Stepped;
+use states::Counts;
+use states::State;
+use walks::Line;
+use walks::Sheet;
+
+// ---- the numbers of refusals
+
+fn admission_number(a: Admission) -> u8
+    ensures { λ r. ⌜ r ≡ admissionNumber a ⌝ }
+{
+    match a {
+        Admission::Admitted => 0,
+        Admission::InvalidDegree => 4,
+        Admission::KnotCount => 5,
+        Admission::KnotOutOfRange => 6,
+        Admission::KnotsNotIncreasing => 7,
+        Admission::MultiplicityTooLarge => 8,
+        Admission::ZeroMultiplicity => 9,
+        Admission::PoleCountMismatch => 10,
+        Admission::PoleCountOutOfRange => 11,
+        Admission::WeightCountMismatch => 12,
+        Admission::WeightOutOfRange => 13,
+        Admission::CoordinateOutOfRange => 14,
+    }
+}
+
+fn asked_number(a: Asked) -> u8
+    ensures { λ r. ⌜ r ≡ askedNumber a ⌝ }
+{
+    match a {
+        Asked::Fine => 0,
+        Asked::RangeOutOfBounds(line) => 15,
+        Asked::GapOutOfRange => 16,
+        Asked::TooManySplits => 17,
+        Asked::BreaksTooClose(line) => 18,
+    }
+}
+
+fn asked_line(a: Asked) -> u8
+    ensures { λ r. ⌜ r ≡ askedLine a ⌝ }
+{
+    match a {
+        Asked::Fine => 0,
+        Asked::RangeOutOfBounds(line) => line,
+        Asked::GapOutOfRange => 0,
+        Asked::TooManySplits => 0,
+        Asked::BreaksTooClose(line) => line,
+    }
+}
+
+// ---- what is printed
+
+// A name and a number.
+fn put_count(out: &mut [u8], at: usize, name: &[u8], n: u64) -> usize
+    requires { ⌜ at + length (now name) + 20 ≤ length (now out) ⌝ }
+    ensures { λ r. ⌜ (r ≡ at + length (counted (now (name .entry)) n)) × (now (out .exit) ≡ patch (now (out .entry)) at (counted (now (name .entry)) n)) ⌝ }
+    ensures { λ r. ⌜ r ≤ at + length (now (name .entry)) + 20 ⌝ }
+{
+    let next = texts::put_bytes(out, at, name);
+    texts::put_decimal(out, next, n)
+}
+
+fn put_word(out: &mut [u8], w: Word) -> usize
+    requires { ⌜ 11 ≤ length (now out) ⌝ }
+    ensures { λ r. ⌜ (r ≡ 0 + length (wordText w)) × (now (out .exit) ≡ patch (now (out .entry)) 0 (wordText w)) ⌝ }
+    ensures { λ r. ⌜ r ≤ 11 ⌝ }
+{
+    match w {
+        Word::Complete => texts::put_bytes(out, 0, b"complete"),
+        Word::Budget => texts::put_bytes(out, 0, b"budget"),
+        Word::Unseparated => texts::put_bytes(out, 0, b"unseparated"),
+    }
+}
+
+// Pairs, visits and splits.
+fn put_steps(out: &mut [u8], at: usize, c: Counts) -> usize
+    requires { ⌜ at + 83 ≤ length (now out) ⌝ }
+    ensures { λ r. ⌜ (r ≡ at + length (stepsText c)) × (now (out .exit) ≡ patch (now (out .entry)) at (stepsText c)) ⌝ }
+    ensures { λ r. ⌜ r ≤ at + 83 ⌝ }
+{
+    let pairs = put_count(out, at, b" pairs=", c.pairs as u64);
+    let visits = put_count(out, pairs, b" visits=", c.visits);
+    put_count(out, visits, b" splits=", c.splits as u64)
+}
+
+// Nodes settled, given up and left.
+fn put_nodes(out: &mut [u8], at: usize, c: Counts) -> usize
+    requires { ⌜ at + 82 ≤ length (now out) ⌝ }
+    ensures { λ r. ⌜ (r ≡ at + length (nodesText c)) × (now (out .exit) ≡ patch (now (out .entry)) at (nodesText c)) ⌝ }
+    ensures { λ r. ⌜ r ≤ at + 82 ⌝ }
+{
+    let settled = put_count(out, at, b" settled=", c.settled as u64);
+    let given = put_count(out, settled, b" given=", c.given as u64);
+    put_count(out, given, b" left=", c.left as u64)
+}
+
+// The line of counts.
+fn put_counts(out: &mut [u8], w: Word, c: Counts, regions: usize) -> usize
+    requires { ⌜ 206 ≤ length (now out) ⌝ }
+    ensures { λ r. ⌜ (r ≡ 0 + length (countLine w c regions)) × (now (out .exit) ≡ patch (now (out .entry)) 0 (countLine w c regions)) ⌝ }
+    ensures { λ r. ⌜ r ≤ 206 ⌝ }
+{
+    let word = put_word(out, w);
+    let steps = put_steps(out, word, c);
+    let nodes = put_nodes(out, steps, c);
+    let all = put_count(out, nodes, b" regions=", regions as u64);
+    texts::put_bytes(out, all, b"\n")
+}
+
+fn put_floats(out: &mut [u8], at: usize, xs: &[f64]) -> usize
+    requires { ⌜ at + 17 * length (now xs) ≤ length (now out) ⌝ }
+    ensures { λ r. ⌜ (r ≡ at + length (floatTexts (now (xs .entry)))) × (now (out .exit) ≡ patch (now (out .entry)) at (floatTexts (now (xs .entry)))) ⌝ }
+    ensures { λ r. ⌜ r ≡ at + 17 * length (now (xs .entry)) ⌝ }
+{
+    let mut here = at;
+    let mut i = 0usize;
+    while i < xs.len() {
+        here = texts::put_float(out, here, xs[i]);
+        i += 1;
+    }
+    here
+}
+
+// The line of a region.
+fn put_region(out: &mut [u8], at: usize, region: &[f64]) -> usize
+    requires { ⌜ (length (now region) ≡ 10) × (at + 177 ≤ length (now out)) ⌝ }
+    ensures { λ r. ⌜ (r ≡ at + length (regionLine (now (region .entry)))) × (now (out .exit) ≡ patch (now (out .entry)) at (regionLine (now (region .entry)))) ⌝ }
+    ensures { λ r. ⌜ r ≡ at + 177 ⌝ }
+{
+    let floats = texts::put_bytes(out, at, b"region");
+    let end = put_floats(out, floats, region);
+    texts::put_bytes(out, end, b"\n")
+}
+
+// The lines of the first `n` regions.
+fn put_regions(out: &mut [u8], at: usize, list: &[f64], n: usize) -> usize
+    requires { ⌜ (n * 10 ≤ length (now list)) × (at + 177 * n ≤ length (now out)) ⌝ }
+    ensures { λ r. ⌜ (r ≡ at + length (regionLines n (now (list .entry)))) × (now (out .exit) ≡ patch (now (out .entry)) at (regionLines n (now (list .entry)))) ⌝ }
+    ensures { λ r. ⌜ r ≡ at + 177 * n ⌝ }
+{
+    let mut here = at;
+    let mut k = 0usize;
+    while k < n {
+        let from = k * 10;
+        let to = from + 10;
+        here = put_region(out, here, &list[from..to]);
+        k += 1;
+    }
+    here
+}
+
+fn put_refusal(out: &mut [u8], number: u8, line: u8) -> usize
+    requires { ⌜ 50 ≤ length (now out) ⌝ }
+    ensures { λ r. ⌜ (r ≡ 0 + length (refusalLine number line)) × (now (out .exit) ≡ patch (now (out .entry)) 0 (refusalLine number line)) ⌝ }
+{
+    let first = put_count(out, 0, b"refused ", number as u64);
+    let second = put_count(out, first, b" ", line as u64);
+    texts::put_bytes(out, second, b"\n")
+}
+
+// ---- from a search to its text
+
+// The report of a search that has ended.
+fn answer_report<'a>(st: State, nets1: &'a [f64], nets2: &'a [f64], ranges: &[f64], depths: &[u8], raw: &mut [f64], list: &mut [f64], out: &mut [u8]) -> usize
+    requires { ⌜ (145169 ≤ length (now out)) × (length (now list) ≤ 8190) ⌝ }
+    ensures { λ r. ⌜ (r ≡ 0 + length (reportText st (memory (now (nets1 .entry)) (now (nets2 .entry)) (now (ranges .entry)) (now (depths .entry)) (now (raw .entry))) (now (list .entry)))) × (now (out .exit) ≡ patch (now (out .entry)) 0 (reportText st (memory (now (nets1 .entry)) (now (nets2 .entry)) (now (ranges .entry)) (now (depths .entry)) (now (raw .entry))) (now (list .entry)))) ⌝ }
+{
+    match report::report(st, nets1, nets2, ranges, depths, raw, list) {
+        Reported::Told(w, c, n) => {
+            let at = put_counts(out, w, c, n);
+            put_regions(out, at, list, n)
+        }
+        Reported::Running => put_refusal(out, 21, 0),
+        Reported::NoRoom => put_refusal(out, 19, 0),
+    }
+}
+
+// An open search run to its end, and its report.
+fn answer_search(st: State, nets1: &mut [f64], nets2: &mut [f64], ranges: &mut [f64], depths: &mut [u8], raw: &mut [f64], list: &mut [f64], out: &mut [u8]) -> usize
+    requires { ⌜ (145169 ≤ length (now out)) × (length (now list) ≤ 8190) ⌝ }
+    ensures { λ r. ⌜ (r ≡ 0 + length (searchText st (memory (now (nets1 .entry)) (now (nets2 .entry)) (now (ranges .entry)) (now (depths .entry)) (now (raw .entry))) (now (list .entry)))) × (now (out .exit) ≡ patch (now (out .entry)) 0 (searchText st (memory (now (nets1 .entry)) (now (nets2 .entry)) (now (ranges .entry)) (now (depths .entry)) (now (raw .entry))) (now (list .entry)))) ⌝ }
+{
+    match search::run(st, nets1, nets2, ranges, depths, raw) {
+        Stepped::Next(end) => answer_report(end, nets1, nets2, ranges, depths, raw, list, out),
+        Stepped::Ended => put_refusal(out, 20, 0),
+        Stepped::NoRoom => put_refusal(out, 19, 0),
+    }
+}
+
+fn piece_room() -> [f64; 8112]
+    ensures { λ r. ⌜ (r ≡ zeros 8112) × (length r ≡ 8112) ⌝ }
+{
+    [0.0f64; 8112]
+}
+
+fn net_room() -> [f64; 7904]
+    ensures { λ r. ⌜ (r ≡ zeros 7904) × (length r ≡ 7904) ⌝ }
+{
+    [0.0f64; 7904]
+}
+
+fn range_room() -> [f64; 304]
+    ensures { λ r. ⌜ (r ≡ zeros 304) × (length r ≡ 304) ⌝ }
+{
+    [0.0f64; 304]
+}
+
+fn depth_room() -> [u8; 76]
+    ensures { λ r. ⌜ (r ≡ zeroDepths) × (length r ≡ 76) ⌝ }
+{
+    [0u8; 76]
+}
+
+fn region_room() -> [f64; 8190]
+    ensures { λ r. ⌜ (r ≡ zeros 8190) × (length r ≡ 8190) ⌝ }
+{
+    [0.0f64; 8190]
+}
+
+// The opening on the lent memory, the search and its report.
+fn answer_lines(
+    q: Question,
+    degree1: u32,
+    knots1: &[f64],
+    mults1: &[u32],
+    coords1: &[f64],
+    weights1: &[f64],
+    degree2: u32,
+    knots2: &[f64],
+    mults2: &[u32],
+    coords2: &[f64],
+    weights2: &[f64],
+    out: &mut [u8],
+) -> usize
+    requires { ⌜ 145169 ≤ length (now out) ⌝ }
+    ensures { λ r. ⌜ (r ≡ 0 + length (linesText (questionOf q (lineOf degree1 (now (knots1 .entry)) (now (mults1 .entry)) (now (coords1 .entry)) (now (weights1 .entry))) (lineOf degree2 (now (knots2 .entry)) (now (mults2 .entry)) (now (coords2 .entry)) (now (weights2 .entry)))))) × (now (out .exit) ≡ patch (now (out .entry)) 0 (linesText (questionOf q (lineOf degree1 (now (knots1 .entry)) (now (mults1 .entry)) (now (coords1 .entry)) (now (weights1 .entry))) (lineOf degree2 (now (knots2 .entry)) (now (mults2 .entry)) (now (coords2 .entry)) (now (weights2 .entry)))))) ⌝ }
+{
+    let mut pieces1 = piece_room();
+    let mut pieces2 = piece_room();
+    let mut nets1 = net_room();
+    let mut nets2 = net_room();
+    let mut ranges = range_room();
+    let mut depths = depth_room();
+    let mut raw = region_room();
+    let mut list = region_room();
+    match opening::open(q, degree1, knots1, mults1, coords1, weights1, degree2, knots2, mults2, coords2, weights2, &mut pieces1, &mut pieces2, &mut nets1, &mut nets2, &mut ranges, &mut depths, &raw) {
+        Opened::Open(st) => answer_search(st, &mut nets1, &mut nets2, &mut ranges, &mut depths, &mut raw, &mut list, out),
+        Opened::BadLine(line, a) => put_refusal(out, admission_number(a), line),
+        Opened::BadQuestion(a) => put_refusal(out, asked_number(a), asked_line(a)),
+        Opened::NoRoom => put_refusal(out, 19, 0),
+    }
+}
+
+// ---- from the sheet to its lines
+
+// As many floats, and words, as a sheet of 16,384 bytes can hold.
+fn float_room() -> [f64; 2048]
+    ensures { λ r. ⌜ length r ≡ 2048 ⌝ }
+{
+    [0.0f64; 2048]
+}
+
+fn word_room() -> [u32; 4096]
+    ensures { λ r. ⌜ length r ≡ 4096 ⌝ }
+{
+    [0u32; 4096]
+}
+
+fn question_at(s: &[u8], at: usize, splits: u32) -> Question
+    requires { ⌜ at + 40 ≤ length (now s) ⌝ }
+    ensures { λ r. ⌜ r ≡ askingAt (now (s .entry)) at splits ⌝ }
+{
+    Question {
+        lo1: walks::float_at(s, at),
+        hi1: walks::float_at(s, at + 8),
+        lo2: walks::float_at(s, at + 16),
+        hi2: walks::float_at(s, at + 24),
+        gap: walks::float_at(s, at + 32),
+        splits,
+    }
+}
+
+// The second line read.
+fn answer_second(
+    s: &[u8],
+    q: Question,
+    degree1: u32,
+    knots1: &[f64],
+    mults1: &[u32],
+    coords1: &[f64],
+    weights1: &[f64],
+    l: Line,
+    out: &mut [u8],
+) -> usize
+    requires { ⌜ (145169 ≤ length (now out)) × (length (now s) ≤ 16384) × LineInside (length (now s)) l ⌝ }
+    ensures { λ r. ⌜ (r ≡ 0 + length (linesText (questionOf q (lineOf degree1 (now (knots1 .entry)) (now (mults1 .entry)) (now (coords1 .entry)) (now (weights1 .entry))) (lineIn (walkedLine (now (s .entry)) l))))) × (now (out .exit) ≡ patch (now (out .entry)) 0 (linesText (questionOf q (lineOf degree1 (now (knots1 .entry)) (now (mults1 .entry)) (now (coords1 .entry)) (now (weights1 .entry))) (lineIn (walkedLine (now (s .entry)) l))))) ⌝ }
+{
+    let mut knots = float_room();
+    let mut mults = word_room();
+    let mut coords = float_room();
+    let mut weights = float_room();
+    let k = l.knots.count;
+    let m = l.mults.count;
+    let c = 3 * l.poles.count;
+    let w = l.weights.count;
+    walks::read_floats(s, l.knots.at, k, &mut knots);
+    walks::read_words(s, l.mults.at, m, &mut mults);
+    walks::read_floats(s, l.poles.at, c, &mut coords);
+    walks::read_floats(s, l.weights.at, w, &mut weights);
+    answer_lines(q, degree1, knots1, mults1, coords1, weights1, l.degree, &knots[..k], &mults[..m], &coords[..c], &weights[..w], out)
+}
+
+// The first line read, then the second.
+fn answer_first(s: &[u8], q: Question, l: Line, second: Line, out: &mut [u8]) -> usize
+    requires { ⌜ (145169 ≤ length (now out)) × (length (now s) ≤ 16384) × LineInside (length (now s)) l × LineInside (length (now s)) second ⌝ }
+    ensures { λ r. ⌜ (r ≡ 0 + length (linesText (questionOf q (lineIn (walkedLine (now (s .entry)) l)) (lineIn (walkedLine (now (s .entry)) second))))) × (now (out .exit) ≡ patch (now (out .entry)) 0 (linesText (questionOf q (lineIn (walkedLine (now (s .entry)) l)) (lineIn (walkedLine (now (s .entry)) second))))) ⌝ }
+{
+    let mut knots = float_room();
+    let mut mults = word_room();
+    let mut coords = float_room();
+    let mut weights = float_room();
+    let k = l.knots.count;
+    let m = l.mults.count;
+    let c = 3 * l.poles.count;
+    let w = l.weights.count;
+    walks::read_floats(s, l.knots.at, k, &mut knots);
+    walks::read_words(s, l.mults.at, m, &mut mults);
+    walks::read_floats(s, l.poles.at, c, &mut coords);
+    walks::read_floats(s, l.weights.at, w, &mut weights);
+    answer_second(s, q, l.degree, &knots[..k], &mults[..m], &coords[..c], &weights[..w], second, out)
+}
+
+// The answer to any bytes, from the front of `out`; answers how many bytes it has.
+pub fn answer(s: &[u8], out: &mut [u8]) -> usize
+    requires { ⌜ 145169 ≤ length (now out) ⌝ }
+    ensures { λ r. ⌜ (r ≡ length (answerOf (now (s .entry)))) × (now (out .exit) ≡ patch (now (out .entry)) 0 (answerOf (now (s .entry)))) ⌝ }
+{
+    let w = walks::walk(s);
+    if w.no != 0 {
+        return put_refusal(out, w.no, 0);
+    }
+    let first = w.first;
+    let second = w.second;
+    answer_first(s, question_at(s, w.asked, w.splits), first, second, out)
+}

@@ -1,0 +1,1 @@
+// What the sheet program prints, for every sheet. No code.
