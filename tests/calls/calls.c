@@ -1,0 +1,652 @@
+/*
+ * Random lists of calls on the compiled library and on the model, side by
+ * side; after every call the answer, the state and every slice, what is lent
+ * and what isn't, are compared.
+ *
+ *   calls SEED LISTS [LEAST MOST]    LISTS lists of LEAST to MOST calls each
+ *   calls --any-width SEED LISTS ..  nets of 0, 1 or over 26 points measured
+ *                                    by their points in the model
+ *
+ * A list begins with openings until one isn't refused. Then come steps with
+ * any verdict, own verdicts, runs and reports. A call may be lent too short a
+ * start of a slice; in two lists of three states are forged, and in one of
+ * three the memory too. Prints counts of each kind of call by number, and
+ * differences; exits 1 if there is one.
+ *
+ * Free: the bits of a NaN, and the sign of a zero least or greatest.
+ * Left out, as 01 says nothing of it: NaN in ranges (how it sorts).
+ */
+#include "../model/calls.c"
+#include <stdbool.h>
+#include <stdlib.h>
+
+/* ---- the library ------------------------------------------------------- */
+
+#define STATE uint16_t, uint16_t, uint32_t, uint64_t, uint32_t, uint32_t, \
+    uint32_t, uint32_t, uint8_t, uint8_t, double, bool
+#define IN const double *, size_t
+#define OUT double *, size_t
+
+uint32_t clearance_open(double, double, double, double, double, uint32_t,
+    uint32_t, IN, const uint32_t *, size_t, IN, IN,
+    uint32_t, IN, const uint32_t *, size_t, IN, IN,
+    OUT, OUT, OUT, OUT, OUT, uint8_t *, size_t, IN, uint64_t *, size_t, double *);
+uint32_t clearance_own_verdict(STATE, IN, IN, const uint8_t *, size_t);
+uint32_t clearance_step(uint8_t, STATE, OUT, OUT, OUT, uint8_t *, size_t, OUT,
+    uint64_t *, size_t, double *);
+uint32_t clearance_run(STATE, OUT, OUT, OUT, uint8_t *, size_t, OUT,
+    uint64_t *, size_t, double *);
+uint32_t clearance_report(STATE, IN, IN, IN, const uint8_t *, size_t, OUT, OUT,
+    uint64_t *, size_t);
+
+#define FIELDS(s) (s)->pairs, (s)->quota, (s)->waiting, (s)->visits, \
+    (s)->splits, (s)->unspent, (s)->settled, (s)->given, (s)->width[0], \
+    (s)->width[1], (s)->gap, (s)->stopped
+#define PART(f) (f).at, (f).length
+
+/* ---- chance ------------------------------------------------------------ */
+
+static uint64_t chance_state;
+
+static uint64_t chance(void)
+{
+    uint64_t z = chance_state += 0x9E3779B97F4A7C15;
+    z = (z ^ z >> 30) * 0xBF58476D1CE4E5B9;
+    z = (z ^ z >> 27) * 0x94D049BB133111EB;
+    return z ^ z >> 31;
+}
+
+static uint64_t below(uint64_t n) { return chance() % n; }
+static int one_in(uint64_t n) { return below(n) == 0; }
+
+/* A number on a coarse grid, so that boxes, chords and ranges often meet. */
+static double coarse(void) { return ((double)below(33) - 16.0) * 0.25; }
+
+static double fine(void) { return (double)(int64_t)(chance() >> 11) * 0x1p-50 - 4.0; }
+
+static double odd(void)
+{
+    static const double x[] = { 0.0, -0.0, 1.0, -1.0, 0x1p25, -0x1p25, 0x1.0000000000001p25,
+                                0x1p-1074, 0x1p1000, INFINITY, -INFINITY, NAN };
+    return x[below(sizeof x / sizeof *x)];
+}
+
+/* ---- two memories ------------------------------------------------------ */
+
+enum { PIECES1, PIECES2, NETS1, NETS2, RANGES, RAW, REPORT, SLICES };
+static const char *slice_name[] = { "pieces1", "pieces2", "nets1", "nets2", "ranges", "raw", "report" };
+
+typedef struct {
+    double *f[SLICES];
+    uint8_t *depths;
+} World;
+
+static World lib, model;
+static size_t cap[SLICES], depth_cap;
+static const size_t room[SLICES] = { 16384, 16384, 131072, 131072, 16384, 65536, 65536 };
+enum { GUARD = 16, DEPTHS = 4096 };
+
+static void new_worlds(void)
+{
+    for (int i = 0; i < SLICES; i++) {
+        lib.f[i] = malloc((room[i] + GUARD) * sizeof(double));
+        model.f[i] = malloc((room[i] + GUARD) * sizeof(double));
+    }
+    lib.depths = malloc(DEPTHS + GUARD);
+    model.depths = malloc(DEPTHS + GUARD);
+}
+
+static double filler(int slice, int wild)
+{
+    if (slice == RANGES || slice == RAW) return one_in(20) ? -0.0 : one_in(4) ? fine() : coarse();
+    return wild && one_in(8) ? odd() : one_in(4) ? fine() : coarse();
+}
+
+/* Both memories get the same numbers. */
+static void fill_worlds(int wild)
+{
+    for (int i = 0; i < SLICES; i++)
+        for (size_t j = 0; j < cap[i] + GUARD; j++)
+            lib.f[i][j] = model.f[i][j] = filler(i, wild);
+    for (size_t j = 0; j < depth_cap + GUARD; j++)
+        lib.depths[j] = model.depths[j] = (uint8_t)(one_in(4) ? chance() : below(66));
+}
+
+static Lent lend(World *w, const size_t n[SLICES], size_t depths)
+{
+    Lent m = { { { w->f[PIECES1], n[PIECES1] }, { w->f[PIECES2], n[PIECES2] } },
+               { { w->f[NETS1], n[NETS1] }, { w->f[NETS2], n[NETS2] } },
+               { w->f[RANGES], n[RANGES] }, { w->f[RAW], n[RAW] },
+               { w->f[REPORT], n[REPORT] }, { w->depths, depths } };
+    return m;
+}
+
+/* ---- comparing --------------------------------------------------------- */
+
+enum { OPEN, SETTLE, HALVE, GIVE, OWN, RUN, TELL, KINDS };
+static const char *kind_name[] = { "open", "step Settled", "step Split", "step Unseparated",
+                                   "own verdict", "run", "report" };
+static uint64_t counts[KINDS][32], calls, differences, forged_calls, short_calls, forged_passed;
+static uint64_t list_number, call_number, lists_seed;
+static uint64_t halved[2], deep, stopped, merged_regions, raw_regions, wide_halvings, no_points;
+
+static State last; /* the state of the last call */
+
+static void differs(int kind, const char *what, double a, double b)
+{
+    if (differences++ < 20)
+        printf("DIFFERENCE seed %lu list %lu call %lu %s (widths %d %d, gap %g): %s library %.17g model %.17g\n",
+               (unsigned long)lists_seed, (unsigned long)list_number, (unsigned long)call_number,
+               kind_name[kind], last.width[0], last.width[1], last.gap, what, a, b);
+}
+
+static int same_bits(double a, double b) { return memcmp(&a, &b, sizeof a) == 0; }
+
+/* Whether element j of a slice may be a in one and b in the other: a box's
+ * zeros in the raw regions, any zero in the merged ones, NaN in all. */
+static int same(int slice, size_t j, double a, double b, uint64_t merged)
+{
+    if (same_bits(a, b) || (a != a && b != b)) return 1;
+    if (slice == RAW && j % 10 >= 4) return a == b;
+    if (slice == REPORT && j < 10 * merged) return a == b;
+    return 0;
+}
+
+static void compare_worlds(int kind, uint64_t merged)
+{
+    for (int i = 0; i < SLICES; i++) {
+        size_t n = cap[i] + GUARD;
+        if (memcmp(lib.f[i], model.f[i], n * sizeof(double)) == 0) continue;
+        for (size_t j = 0; j < n; j++)
+            if (!same(i, j, lib.f[i][j], model.f[i][j], merged)) {
+                char what[64];
+                snprintf(what, sizeof what, "%s[%lu]", slice_name[i], (unsigned long)j);
+                differs(kind, what, lib.f[i][j], model.f[i][j]);
+                memcpy(lib.f[i], model.f[i], n * sizeof(double));
+                break;
+            }
+    }
+    if (memcmp(lib.depths, model.depths, depth_cap + GUARD) != 0) {
+        differs(kind, "depths", 0, 0);
+        memcpy(lib.depths, model.depths, depth_cap + GUARD);
+    }
+}
+
+static void compare_number(int kind, const char *what, uint64_t a, uint64_t b)
+{
+    if (a != b) differs(kind, what, (double)a, (double)b);
+}
+
+enum { UNTOUCHED = 0x5A5A };
+
+/* The words that the library wrote are the state's. */
+static void compare_state(int kind, const uint64_t *w, double gap, const State *s)
+{
+    uint64_t m[12] = { s->pairs, s->quota, s->waiting, s->visits, s->splits, s->unspent,
+                       s->settled, s->given, s->width[0], s->width[1], (uint64_t)s->stopped, 0 };
+    static const char *name[] = { "pairs", "quota", "waiting", "visits", "splits", "unspent",
+                                  "settled", "given", "width1", "width2", "stopped", "last word" };
+    for (int i = 0; i < 12; i++) compare_number(kind, name[i], w[i], m[i]);
+    if (!same_bits(gap, s->gap) && !(gap != gap && s->gap != s->gap)) differs(kind, "gap", gap, s->gap);
+}
+
+static void count(int kind, int number)
+{
+    calls++;
+    counts[kind][number & 31]++;
+}
+
+/* ---- lent lengths ------------------------------------------------------ */
+
+/* What the state needs, as far as there is memory; one slice in some calls
+ * shorter: by one, by any amount, or empty. Longer than needed in others. */
+static Lent lent[2];
+
+static void choose_lent(const State *s)
+{
+    last = *s;
+    uint64_t nodes = (uint64_t)s->pairs + 64;
+    uint64_t raw = 10 * (uint64_t)s->pairs * ((uint64_t)s->quota + 1);
+    uint64_t need[SLICES + 1] = { 0, 0, nodes * 4 * s->width[0], nodes * 4 * s->width[1], 4 * nodes, raw, raw, nodes };
+    size_t n[SLICES + 1];
+    int exact = one_in(3);
+    for (int i = 0; i <= SLICES; i++) {
+        size_t most = i == SLICES ? depth_cap : cap[i];
+        n[i] = exact && need[i] < most ? need[i] : most;
+    }
+    if (one_in(8)) {
+        int i = (int)(NETS1 + below(SLICES + 1 - NETS1));
+        size_t least = need[i] < n[i] ? need[i] : n[i];
+        short_calls++;
+        n[i] = one_in(3) ? below(least + 1) : one_in(8) ? 0 : least > 0 ? least - 1 : 0;
+    }
+    lent[0] = lend(&lib, n, n[SLICES]);
+    lent[1] = lend(&model, n, n[SLICES]);
+}
+
+/* ---- calls ------------------------------------------------------------- */
+
+static void do_step(State *s, Verdict v)
+{
+    static const uint8_t code[] = { 0, 1, 2 };
+    int kind = SETTLE + (int)v, no, was_top;
+    uint64_t words[12];
+    double gap = 777.0;
+    State old = *s;
+    Lent *a = &lent[0], *b = &lent[1];
+    choose_lent(s);
+    for (int i = 0; i < 12; i++) words[i] = UNTOUCHED;
+    was_top = s->waiting > 0 && s->waiting <= depth_cap ? model.depths[s->waiting - 1] : 0;
+    uint32_t got = clearance_step(v == UNSEPARATED && one_in(4) ? (uint8_t)(2 + below(254)) : code[v],
+        FIELDS(s), PART(a->nets[0]), PART(a->nets[1]), PART(a->ranges), PART(a->depths), PART(a->raw), words, 12, &gap);
+    no = call_step(s, v, b);
+    compare_number(kind, "answer", got, (uint64_t)no);
+    if (no == 0) {
+        compare_state(kind, words, gap, s);
+        if (s->splits > old.splits) {
+            size_t top = 4 * (size_t)(old.waiting - 1);
+            double *r = model.f[RANGES] + top;
+            halved[memcmp(r, r + 4, 2 * sizeof *r) == 0]++;
+            wide_halvings += s->width[0] > 26 || s->width[1] > 26;
+        }
+        deep += v == SPLIT && was_top == 64;
+        stopped += s->stopped && !old.stopped;
+        no_points += s->width[0] == 0 || s->width[1] == 0;
+    } else {
+        compare_number(kind, "words written", words[0], UNTOUCHED);
+        if (gap != 777.0) differs(kind, "gap written", gap, 777.0);
+    }
+    count(kind, no);
+    compare_worlds(kind, 0);
+}
+
+/* A net of no points has no chord. */
+static int untold(const State *s)
+{
+    return any_width && (s->width[0] == 0 || s->width[1] == 0) && !isfinite(s->gap);
+}
+
+static void do_own(const State *s)
+{
+    Verdict v = SETTLED;
+    int no;
+    Lent *a = &lent[0];
+    if (untold(s)) return;
+    choose_lent(s);
+    uint32_t got = clearance_own_verdict(FIELDS(s), PART(a->nets[0]), PART(a->nets[1]), PART(a->depths));
+    no = call_own_verdict(s, &lent[1], &v);
+    compare_number(OWN, "answer", got, no ? (uint64_t)no : (uint64_t)v + 1);
+    count(OWN, no ? no : (int)v + 1);
+    compare_worlds(OWN, 0);
+}
+
+static void do_run(State *s)
+{
+    uint64_t words[12];
+    double gap = 777.0;
+    int no;
+    State next = *s;
+    Lent *a = &lent[0];
+    if (untold(s)) return;
+    choose_lent(s);
+    for (int i = 0; i < 12; i++) words[i] = UNTOUCHED;
+    uint32_t got = clearance_run(FIELDS(s), PART(a->nets[0]), PART(a->nets[1]), PART(a->ranges),
+        PART(a->depths), PART(a->raw), words, 12, &gap);
+    no = call_run(&next, &lent[1]);
+    compare_number(RUN, "answer", got, (uint64_t)no);
+    if (no == 0) {
+        compare_state(RUN, words, gap, &next);
+        *s = next;
+    } else {
+        compare_number(RUN, "words written", words[0], UNTOUCHED);
+    }
+    count(RUN, no);
+    compare_worlds(RUN, 0);
+}
+
+static void do_report(const State *s)
+{
+    uint64_t words[9];
+    Told t = { 0, 0 };
+    int no;
+    Lent *a = &lent[0];
+    choose_lent(s);
+    for (int i = 0; i < 9; i++) words[i] = UNTOUCHED;
+    uint32_t got = clearance_report(FIELDS(s), PART(a->nets[0]), PART(a->nets[1]), PART(a->ranges),
+        PART(a->depths), PART(a->raw), PART(a->report), words, 9);
+    no = call_report(s, &lent[1], &t);
+    compare_number(TELL, "answer", got, (uint64_t)no);
+    if (no == 0) {
+        uint64_t m[9] = { (uint64_t)t.word, s->pairs, s->visits, s->splits, s->settled, s->given, s->waiting, s->unspent, t.regions };
+        static const char *name[] = { "word", "pairs", "visits", "splits", "settled", "given", "left", "unspent", "regions" };
+        for (int i = 0; i < 9; i++) compare_number(TELL, name[i], words[i], m[i]);
+        merged_regions += t.regions;
+        raw_regions += (uint64_t)s->given + s->waiting;
+    } else {
+        compare_number(TELL, "words written", words[0], UNTOUCHED);
+    }
+    count(TELL, no);
+    compare_worlds(TELL, t.regions);
+    /* zeros of free sign stay free in the report slice afterwards */
+    if (no == 0) memcpy(lib.f[REPORT], model.f[REPORT], (cap[REPORT] + GUARD) * sizeof(double));
+}
+
+/* ---- openings ---------------------------------------------------------- */
+
+typedef struct {
+    Given given;
+    double knots[160], coords[2000], weights[600];
+    uint32_t mults[160];
+} Drawn;
+
+/* Lines of up to 2, 5 or 129 spans. */
+static int spans;
+
+static void draw_line(Drawn *d)
+{
+    uint32_t p = one_in(spans == 2 ? 40 : 12) ? 1 + (uint32_t)below(25) : 1 + (uint32_t)below(4);
+    size_t n = 2 + below((uint64_t)spans), poles, sum = 0;
+    double t = one_in(2) ? 0.0 : coarse();
+    int rational = one_in(3);
+    d->given.degree = p;
+    for (size_t i = 0; i < n; i++) {
+        int end = i == 0 || i == n - 1;
+        d->knots[i] = t;
+        t += one_in(3) ? 0x1p-40 + fabs(fine()) : 1.0;
+        d->mults[i] = end ? p + 1 : 1 + (uint32_t)below(p);
+        if (spans > 5 && !end && !one_in(6)) d->mults[i] = 1;
+        if (one_in(12)) d->mults[i] = 1 + (uint32_t)below(p);
+        sum += d->mults[i];
+    }
+    if (sum < 2 * p + 2 && !(sum > p && one_in(4))) {
+        sum += 2 * p + 2 - d->mults[0] - d->mults[n - 1];
+        d->mults[0] = d->mults[n - 1] = p + 1;
+    }
+    poles = sum - p - 1 > 600 ? 600 : sum - p - 1;
+    for (size_t i = 0; i < 3 * poles; i++) d->coords[i] = i % 3 == 2 && one_in(2) ? 0.0 : one_in(4) ? fine() : coarse();
+    for (size_t i = 0; i < poles; i++) d->weights[i] = one_in(2) ? 1.0 : 0.5 + (double)below(9) * 0.25;
+    d->given.knot_count = d->given.mult_count = n;
+    d->given.coord_count = 3 * poles;
+    d->given.weight_count = rational ? poles : 0;
+}
+
+static void spoil_line(Drawn *d)
+{
+    static const double far[] = { NAN, INFINITY, -INFINITY, 0x1.0000000000001p20, 0x1.0000000000001p24, 0x1p10, 0x1.0000000000001p10,
+                                  0x1.fffffffffffffp-11, 0x1p-10, -0x1p24, 0x1p20, -0x1.0000000000001p24, 0.0 };
+    Given *g = &d->given;
+    double x = far[below(sizeof far / sizeof *far)];
+    switch (below(11)) {
+    case 0: g->degree = one_in(2) ? 0 : one_in(2) ? 26 : (uint32_t)chance(); break;
+    case 1: g->knot_count = below(2); break;
+    case 2: g->mult_count -= one_in(2) ? 1 : (size_t)-1; d->mults[g->mult_count - (g->mult_count > 0)] = 1; break;
+    case 3: d->knots[below(g->knot_count)] = x; break;
+    case 4: d->knots[1] = d->knots[0]; break;
+    case 5: d->mults[below(g->mult_count)] = one_in(2) ? g->degree + 2 : UINT32_MAX; break;
+    case 6: d->mults[below(g->mult_count)] = 0; break;
+    case 7: g->coord_count += below(7) - 3; if (g->coord_count > 2000) g->coord_count = 0; break;
+    case 8: g->weight_count = g->coord_count / 3 + (one_in(2) ? 1 : (size_t)-1); break;
+    case 9: g->weight_count = g->coord_count / 3; if (g->weight_count) d->weights[below(g->weight_count)] = x; break;
+    default: if (g->coord_count) d->coords[below(g->coord_count)] = x; break;
+    }
+}
+
+static int do_open(State *s, int spoil)
+{
+    static Drawn d[2];
+    double range[2][2], gap = one_in(2) ? 0.0 : one_in(2) ? (double)below(5) * 0.25 : fabs(fine());
+    static const uint32_t quota[] = { 0, 1, 2, 3, 5, 9, 20, 40, 100, 256 };
+    uint32_t splits = quota[below(10)];
+    uint64_t words[12];
+    double open_gap = 777.0;
+    size_t n[SLICES + 1];
+    for (int i = 0; i < 2; i++) {
+        Given *g = &d[i].given;
+        draw_line(&d[i]);
+        if (spoil && one_in(4)) spoil_line(&d[i]);
+        g->knots = d[i].knots; g->coords = d[i].coords; g->weights = d[i].weights; g->mults = d[i].mults;
+        /* the bounds: flat knots number degree and number poles */
+        uint32_t at = 0, lo = 0, hi = 0, poles = (uint32_t)(g->coord_count / 3);
+        for (uint32_t k = 0; k < g->knot_count && k < g->mult_count; k++) {
+            if (at <= g->degree) lo = k;
+            if (at <= poles) hi = k;
+            at += g->mults[k] > 100 ? 100 : g->mults[k];
+        }
+        range[i][0] = d[i].knots[lo];
+        range[i][1] = d[i].knots[hi];
+        if (one_in(3)) range[i][0] += 0.25;
+        if (one_in(3)) range[i][1] -= one_in(2) ? 0.25 : 0x1p-30;
+        if (spoil && one_in(10)) range[i][below(2)] = one_in(2) ? odd() : range[i][1] + 1.0;
+        if (spoil && one_in(15)) range[i][1] = nextafter(range[i][0], INFINITY);
+    }
+    if (spoil && one_in(12)) gap = one_in(3) ? NAN : one_in(2) ? -0x1p-1074 : 0x1.0000000000001p24;
+    if (one_in(30)) gap = one_in(2) ? 0x1p24 : -0.0;
+    if (spoil && one_in(12)) splits = one_in(2) ? 257 : (uint32_t)chance();
+    for (int i = 0; i <= SLICES; i++) n[i] = i == SLICES ? depth_cap : cap[i];
+    if (one_in(8)) {
+        int i = (int)below(SLICES + 1);
+        short_calls++;
+        n[i] = below(i == SLICES ? 70 : i == RANGES ? 280 : i == RAW ? 200 : 1200);
+        if (i <= PIECES2 && !one_in(4)) n[i] = (1 + below(4)) * 4 * (d[i].given.degree % 32 + 1) - below(2);
+        if (n[i] > (i == SLICES ? depth_cap : cap[i])) n[i] = 0;
+    }
+    lent[0] = lend(&lib, n, n[SLICES]);
+    lent[1] = lend(&model, n, n[SLICES]);
+    for (int i = 0; i < 12; i++) words[i] = UNTOUCHED;
+    Lent *a = &lent[0];
+#define LINE(g) (g).degree, (g).knots, (g).knot_count, (g).mults, (g).mult_count, (g).coords, (g).coord_count, (g).weights, (g).weight_count
+    uint32_t got = clearance_open(range[0][0], range[0][1], range[1][0], range[1][1], gap, splits,
+        LINE(d[0].given), LINE(d[1].given), PART(a->pieces[0]), PART(a->pieces[1]), PART(a->nets[0]), PART(a->nets[1]),
+        PART(a->ranges), PART(a->depths), PART(a->raw), words, 12, &open_gap);
+    Given both[2] = { d[0].given, d[1].given };
+    int no = call_open(both, (const double (*)[2])range, gap, splits, &lent[1], s);
+    compare_number(OPEN, "answer", got, (uint64_t)no);
+    if (no == 0)
+        compare_state(OPEN, words, open_gap, s);
+    else
+        compare_number(OPEN, "words written", words[0], UNTOUCHED);
+    count(OPEN, no & 255);
+    compare_worlds(OPEN, 0);
+    return no;
+}
+
+/* ---- forging ----------------------------------------------------------- */
+
+static uint64_t bent(uint64_t x, uint64_t most)
+{
+    switch (below(7)) {
+    case 0: case 1: return x + 1 > most ? 0 : x + 1;
+    case 2: case 3: return x == 0 ? most : x - 1;
+    case 4: return 0;
+    case 5: return most;
+    default: return chance() & most;
+    }
+}
+
+static void bend(State *s)
+{
+    static const uint8_t widths[] = { 0, 1, 2, 26, 27, 255 };
+    switch (below(14)) {
+    case 0: s->pairs = (uint16_t)bent(s->pairs, UINT16_MAX); break;
+    case 1: s->quota = (uint16_t)bent(s->quota, UINT16_MAX); break;
+    case 2: s->waiting = one_in(3) ? s->pairs + (uint32_t)below(70) : (uint32_t)bent(s->waiting, UINT32_MAX); break;
+    case 3: s->visits = one_in(2) ? (uint64_t)s->splits + s->settled + s->given + below(3) : bent(s->visits, UINT64_MAX); break;
+    case 4: s->splits = (uint32_t)bent(s->splits, UINT32_MAX); break;
+    case 5: s->unspent = (uint32_t)bent(s->unspent, UINT32_MAX); break;
+    case 6: s->settled = (uint32_t)bent(s->settled, UINT32_MAX); break;
+    case 7: s->given = (uint32_t)bent(s->given, UINT32_MAX); break;
+    case 8: s->width[0] = one_in(3) ? (uint8_t)bent(s->width[0], 255) : widths[below(6)]; break;
+    case 9: s->width[1] = one_in(3) ? (uint8_t)bent(s->width[1], 255) : widths[below(6)]; break;
+    case 10: s->gap = one_in(2) ? odd() : -1.0; break;
+    case 11: /* sums that are right in 32 bits only */
+        s->settled += 0x80000000;
+        s->given += 0x80000000;
+        break;
+    case 12: {
+        uint32_t n = 1 + (uint32_t)below(1000);
+        s->splits += s->unspent + n;
+        s->settled += s->unspent + n;
+        s->unspent = -n;
+        break;
+    }
+    default: s->stopped = !s->stopped; break;
+    }
+}
+
+/* A state that passes the five tests (if the top node's depth lets it), and
+ * that no list of calls need have made. */
+static void invent(State *s)
+{
+    uint64_t all, of;
+    s->pairs = (uint16_t)below(40);
+    s->quota = (uint16_t)below(one_in(3) ? 300 : 12);
+    while (10 * (size_t)s->pairs * (s->quota + 1u) > cap[RAW] && !one_in(20)) s->quota /= 2;
+    all = (uint64_t)s->pairs * s->quota;
+    s->splits = (uint32_t)(one_in(4) ? all : below(all + 1));
+    s->unspent = (uint32_t)(all - s->splits);
+    of = (uint64_t)s->pairs + s->splits;
+    s->waiting = (uint32_t)below((of < 104 ? of : 104) + 1);
+    s->given = (uint32_t)(one_in(3) ? of - s->waiting : below(of - s->waiting + 1));
+    s->settled = (uint32_t)(of - s->waiting - s->given);
+    s->visits = one_in(2) ? (uint64_t)s->splits + s->settled + s->given + one_in(2) : below(of + 2);
+    s->stopped = one_in(4);
+    if (one_in(3)) s->width[below(2)] = (uint8_t)(one_in(3) ? below(256) : below(30));
+    for (int i = 0; i < 2; i++)
+        while ((s->pairs + 64u) * 4 * s->width[i] > cap[NETS1 + i] && !one_in(20)) s->width[i] /= 2;
+    if (one_in(6)) s->gap = odd();
+    if (s->waiting > 0) {
+        size_t top = s->waiting - 1;
+        uint8_t least_depth = s->waiting > s->pairs ? (uint8_t)(s->waiting - s->pairs) : 0;
+        lib.depths[top] = model.depths[top] = (uint8_t)(one_in(3) ? least_depth + below(2) : one_in(3) ? 64 - below(2) : least_depth + below(64));
+    }
+}
+
+static void forge_memory(const State *s)
+{
+    for (uint64_t i = 1 + below(6); i > 0; i--) {
+        int slice = (int)(NETS1 + below(4));
+        size_t top = s->waiting && s->waiting < 200 ? s->waiting - 1 : 0;
+        size_t at = slice == NETS1 ? top * 4 * s->width[0] + below(4 * s->width[0] + 1)
+                  : slice == NETS2 ? top * 4 * s->width[1] + below(4 * s->width[1] + 1)
+                  : slice == RANGES ? top * 4 + below(4) : below(cap[slice]);
+        if (at >= cap[slice]) at = below(cap[slice]);
+        lib.f[slice][at] = model.f[slice][at] = filler(slice, 1);
+        if (one_in(2) && top < depth_cap) {
+            static const uint8_t d[] = { 0, 1, 62, 63, 64, 65, 255 };
+            lib.depths[top] = model.depths[top] = d[below(7)];
+        }
+    }
+}
+
+/* ---- a list ------------------------------------------------------------ */
+
+static void one_call(State *s, int bias)
+{
+    uint64_t r = below(100);
+    if (r < 10) do_own(s);
+    else if (r < 16) do_report(s);
+    else if (r < 19 && (bias != 1 || one_in(8))) do_run(s);
+    else if (bias == 1) do_step(s, one_in(25) ? (one_in(2) ? SETTLED : UNSEPARATED) : SPLIT);
+    else if (bias == 2) do_step(s, (Verdict)below(3));
+    else {
+        Verdict v = SPLIT;
+        Lent m;
+        size_t n[SLICES];
+        memcpy(n, cap, sizeof n);
+        m = lend(&model, n, depth_cap);
+        if (!untold(s)) call_own_verdict(s, &m, &v);
+        do_step(s, v);
+    }
+}
+
+/* At most n openings, until one isn't refused. */
+static void open_until(State *s, int n)
+{
+    State first;
+    for (; n > 0; n--, call_number++)
+        if (do_open(&first, n > 4 && one_in(2)) == 0) {
+            *s = first;
+            return;
+        }
+}
+
+static void one_list(uint64_t least_calls, uint64_t most_calls)
+{
+    int forging = !one_in(3), wild = one_in(3), wide = one_in(12), big = one_in(30), bias = (int)below(3);
+    uint64_t n = least_calls + below(most_calls - least_calls + 1);
+    State s = { 0 }, kept;
+    spans = big ? 129 : one_in(2) ? 2 : 5;
+    cap[PIECES1] = cap[PIECES2] = big ? 16000 : 700;
+    cap[NETS1] = cap[NETS2] = big || wide ? 104 * 4 * 255 : one_in(3) ? 104 * 4 * 27 : 104 * 4 * 6;
+    cap[RANGES] = 4 * (depth_cap = big ? 4000 : 104);
+    cap[RAW] = cap[REPORT] = big ? 60000 : one_in(3) ? 16000 : 6000;
+    fill_worlds(wild && forging);
+    call_number = 0;
+    open_until(&s, 12);
+    kept = s;
+    for (; call_number < n; call_number++) {
+        if (one_in(60)) {
+            open_until(&s, 1);
+            continue;
+        }
+        if (forging && wild && one_in(6)) forge_memory(&s);
+        if (forging && one_in(5)) {
+            State f = one_in(3) ? kept : s;
+            uint64_t before = counts[SETTLE][0] + counts[HALVE][0] + counts[GIVE][0] + counts[TELL][0];
+            int invented = one_in(2);
+            if (invented) invent(&f);
+            for (uint64_t i = invented ? one_in(4) : 1 + one_in(4); i > 0; i--) bend(&f);
+            forged_calls++;
+            one_call(&f, 2);
+            forged_passed += counts[SETTLE][0] + counts[HALVE][0] + counts[GIVE][0] + counts[TELL][0] > before;
+            if (one_in(invented ? 2 : 20)) s = f;
+            continue;
+        }
+        if (one_in(20)) kept = s;
+        if (has_ended(&s) && one_in(4)) {
+            do_report(&s);
+            do_report(&s);
+            open_until(&s, one_in(2) ? 6 : 0);
+            continue;
+        }
+        one_call(&s, bias);
+    }
+}
+
+int main(int argc, char **argv)
+{
+    uint64_t lists, least_calls = 50, most_calls = 300;
+    if (argc > 1 && strcmp(argv[1], "--any-width") == 0) {
+        any_width = 1;
+        argv++;
+        argc--;
+    }
+    if (argc != 3 && argc != 5) {
+        fprintf(stderr, "usage: calls [--any-width] SEED LISTS [LEAST MOST]\n");
+        return 2;
+    }
+    lists_seed = strtoull(argv[1], NULL, 10);
+    lists = strtoull(argv[2], NULL, 10);
+    if (argc == 5) {
+        least_calls = strtoull(argv[3], NULL, 10);
+        most_calls = strtoull(argv[4], NULL, 10);
+    }
+    new_worlds();
+    for (list_number = 0; list_number < lists; list_number++) {
+        chance_state = lists_seed * 0x9E3779B97F4A7C15 + list_number * 0xD1B54A32D192ED03;
+        one_list(least_calls, most_calls);
+    }
+    printf("lists %lu, calls %lu, with a forged state %lu (%lu of them a step or report that wasn't refused), with a slice cut short %lu\n",
+           (unsigned long)lists, (unsigned long)calls, (unsigned long)forged_calls, (unsigned long)forged_passed, (unsigned long)short_calls);
+    for (int k = 0; k < KINDS; k++) {
+        printf("%s:", kind_name[k]);
+        for (int i = 0; i < 32; i++)
+            if (counts[k][i]) printf(" %d=%lu", i, (unsigned long)counts[k][i]);
+        printf("\n");
+    }
+    printf("halved first %lu, second %lu, nets over 26 points %lu; no points %lu; given up at depth 64 %lu; stopped %lu; regions raw %lu, merged %lu\n",
+           (unsigned long)halved[0], (unsigned long)halved[1], (unsigned long)wide_halvings, (unsigned long)no_points, (unsigned long)deep,
+           (unsigned long)stopped, (unsigned long)raw_regions, (unsigned long)merged_regions);
+    printf("differences %lu\n", (unsigned long)differences);
+    return differences != 0;
+}

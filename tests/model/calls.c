@@ -1,0 +1,297 @@
+/*
+ * The library's operations as document 01 has them, on lent memory of any
+ * length and on any state: the table's numbers 4 to 21 and the paragraph
+ * under it, Search, Merging. The parts of a sheet's answer (admission, breaks,
+ * pieces, boxes, tests, halving, merging) are clearance.c's.
+ *
+ * A state's width may be any byte, so its nets may have up to 255 points.
+ */
+#define NET_POINTS 256
+#define main sheet_main
+#define step sheet_step
+#define report sheet_report
+#define region_of sheet_region_of
+#define own_verdict tests_verdict
+#include "clearance.c"
+#undef main
+#undef step
+#undef report
+#undef region_of
+#undef own_verdict
+
+/* 01, Search: "The result counts", and what a search keeps beside the lent
+ * memory. */
+typedef struct {
+    uint16_t pairs, quota; /* P and S */
+    uint32_t waiting;
+    uint64_t visits;
+    uint32_t splits, unspent, settled, given;
+    uint8_t width[2];
+    double gap;
+    int stopped; /* a split came due with allowance 0 */
+} State;
+
+/* A lent slice: its start and how much of it is lent. */
+typedef struct { double *at; size_t length; } Floats;
+typedef struct { uint8_t *at; size_t length; } Bytes;
+
+typedef struct {
+    Floats pieces[2], nets[2], ranges, raw, report;
+    Bytes depths;
+} Lent;
+
+/* A line as a call hands it over: counts of its own for each slice. */
+typedef struct {
+    uint32_t degree;
+    size_t knot_count, mult_count, coord_count, weight_count;
+    const double *knots, *coords, *weights;
+    const uint32_t *mults;
+} Given;
+
+/* 01, the paragraph under the table: "The search has ended". */
+static int has_ended(const State *s)
+{
+    return s->stopped || s->waiting == 0;
+}
+
+/* 01, "Needed": nets, depths; then ranges and raw regions. */
+static int nets_fit(const State *s, const Lent *m)
+{
+    uint64_t nodes = (uint64_t)s->pairs + 64;
+    return nodes * 4 * s->width[0] <= m->nets[0].length
+        && nodes * 4 * s->width[1] <= m->nets[1].length
+        && nodes <= m->depths.length;
+}
+
+static int slices_fit(const State *s, const Lent *m)
+{
+    uint64_t nodes = (uint64_t)s->pairs + 64;
+    return nets_fit(s, m) && 4 * nodes <= m->ranges.length
+        && 10 * (uint64_t)s->pairs * ((uint64_t)s->quota + 1) <= m->raw.length;
+}
+
+/* "a state that is no search's: the count waiting is over P + the top node's
+ * depth (if one waits), that depth is over 64, pairs + splits != settled +
+ * given + waiting, splits + unspent != S x P, or visits is over splits +
+ * settled + given + 1". The slices fit; a slot that isn't lent has no node,
+ * and the count waiting is then over P + 64. */
+static int is_search(const State *s, const Lent *m)
+{
+    uint64_t pairs = s->pairs, splits = s->splits, settled = s->settled;
+    uint64_t given = s->given, waiting = s->waiting;
+    if (waiting > 0) {
+        if (waiting > pairs + 64) return 0;
+        uint8_t depth = m->depths.at[waiting - 1];
+        if (waiting > pairs + depth || depth > 64) return 0;
+    }
+    if (pairs + splits != settled + given + waiting) return 0;
+    if (splits + s->unspent != (uint64_t)s->quota * pairs) return 0;
+    return s->visits <= splits + settled + given + 1;
+}
+
+static double *slot(const State *s, const Lent *m, int line, uint32_t k)
+{
+    return m->nets[line].at + (size_t)k * 4 * s->width[line];
+}
+
+/* 01 has nets of 2 to 26 points. A state may name another width, and 01's
+ * five tests don't look at it: such a net counts as out of measure. With
+ * `any_width` it is measured by its points as any other (none: in measure). */
+static int any_width;
+
+static void node_hulls(const State *s, const Lent *m, uint32_t k, Hull h[2])
+{
+    for (int i = 0; i < 2; i++) {
+        fill_hull(slot(s, m, i, k), s->width[i], &h[i]);
+        if (any_width || (s->width[i] >= 2 && s->width[i] <= MAX_WIDTH)) continue;
+        h[i].measured = 0;
+        fill_box(&h[i]);
+    }
+}
+
+/* 01, Search and Merging: a region has the node's ranges, and the box of both
+ * nets. Stores it as region number n of the raw slice. */
+static void store_region(const Lent *m, uint32_t k, const Hull h[2], uint64_t n)
+{
+    double *to = m->raw.at + 10 * n;
+    memcpy(to, m->ranges.at + 4 * (size_t)k, 4 * sizeof *to);
+    for (int c = 0; c < 3; c++) {
+        to[4 + c] = least(h[0].box[c], h[1].box[c]);
+        to[7 + c] = greatest(h[0].box[c + 3], h[1].box[c + 3]);
+    }
+}
+
+/* Line i of node k is halved: the upper half in slot k, the lower on top; the
+ * other line's net in both. Each half range holds the middle. */
+static void halve_node(const State *s, const Lent *m, uint32_t k, int i)
+{
+    size_t w = 4 * (size_t)s->width[i], o = 4 * (size_t)s->width[1 - i];
+    double *range = m->ranges.at + 4 * (size_t)k;
+    double mid = middle(range[2 * i], range[2 * i + 1]);
+    double net[4 * NET_POINTS];
+    memcpy(net, slot(s, m, i, k), w * sizeof *net);
+    halve_net(net, s->width[i], slot(s, m, i, k) + w, slot(s, m, i, k));
+    memcpy(slot(s, m, 1 - i, k) + o, slot(s, m, 1 - i, k), o * sizeof *net);
+    memcpy(range + 4, range, 4 * sizeof *range);
+    range[2 * i] = mid;
+    range[4 + 2 * i + 1] = mid;
+    m->depths.at[k + 1] = ++m->depths.at[k];
+}
+
+/* A step with a verdict for the top node: 20, 19, or 0 and the next state. */
+static int call_step(State *s, Verdict v, const Lent *m)
+{
+    Hull h[2];
+    uint32_t top = s->waiting - 1;
+    if (has_ended(s)) return 20;
+    if (!slices_fit(s, m) || !is_search(s, m)) return 19;
+    if (v == SETTLED) {
+        s->settled++;
+        s->waiting--;
+    } else if (v == UNSEPARATED || m->depths.at[top] == 64) {
+        node_hulls(s, m, top, h);
+        store_region(m, top, h, s->given++);
+        s->waiting--;
+    } else if (s->unspent == 0) {
+        s->stopped = 1;
+    } else {
+        node_hulls(s, m, top, h);
+        halve_node(s, m, top, box_size(h[1].box) >= box_size(h[0].box));
+        s->unspent--;
+        s->splits++;
+        s->waiting++;
+    }
+    s->visits++;
+    return 0;
+}
+
+/* The own verdict: 20, 19 (for nets and depths), or 0 and the verdict. */
+static int call_own_verdict(const State *s, const Lent *m, Verdict *v)
+{
+    Hull h[2];
+    if (has_ended(s)) return 20;
+    if (!nets_fit(s, m) || !is_search(s, m)) return 19;
+    node_hulls(s, m, s->waiting - 1, h);
+    *v = tests_verdict(&h[0], &h[1], s->gap);
+    return 0;
+}
+
+/* The loop above the step: its own verdict to each step until the search has
+ * ended; a refused step ends it with that number. */
+static int call_run(State *s, const Lent *m)
+{
+    while (!has_ended(s)) {
+        Verdict v = SETTLED;
+        int no;
+        no = call_own_verdict(s, m, &v);
+        if (!no) no = call_step(s, v, m);
+        if (no) return no;
+    }
+    return 0;
+}
+
+/* The result of a report: the word (0 complete, 1 budget, 2 unseparated) and
+ * how many regions; the counts are the state's, left the nodes waiting. */
+typedef struct { int word; uint64_t regions; } Told;
+
+/* A report: 21, 19, or 0 with the raw list whole in the raw slice, and the
+ * merged regions, then +0 up to the raw list's length, in the report slice. */
+static int call_report(const State *s, const Lent *m, Told *t)
+{
+    uint64_t n = (uint64_t)s->given + s->waiting;
+    Region *list = (Region *)m->report.at;
+    Hull h[2];
+    if (!has_ended(s)) return 21;
+    if (!slices_fit(s, m)
+        || 10 * (uint64_t)s->pairs * ((uint64_t)s->quota + 1) > m->report.length
+        || !is_search(s, m))
+        return 19;
+    for (uint32_t k = 0; k < s->waiting; k++) {
+        node_hulls(s, m, k, h);
+        store_region(m, k, h, (uint64_t)s->given + k);
+    }
+    t->word = s->waiting > 0 ? 1 : s->given > 0 ? 2 : 0;
+    t->regions = merge((const Region *)m->raw.at, n, list);
+    sort_regions(list, t->regions);
+    for (uint64_t i = 10 * t->regions; i < 10 * n; i++) m->report.at[i] = 0.0;
+    return 0;
+}
+
+/* A handed line as clearance.c has it; its number from 4 to 14, or 0. */
+static int take_given(const Given *g, Line *l)
+{
+    int fault;
+    l->degree = g->degree;
+    l->rational = g->weight_count > 0;
+    l->knot_count = (uint32_t)g->knot_count;
+    l->mult_count = (uint32_t)g->mult_count;
+    l->weight_count = (uint32_t)g->weight_count;
+    l->pole_count = (uint32_t)(g->coord_count / 3);
+    memcpy(l->knots, g->knots, g->knot_count * sizeof(double));
+    memcpy(l->mults, g->mults, g->mult_count * sizeof(uint32_t));
+    memcpy(l->poles, g->coords, g->coord_count * sizeof(double));
+    memcpy(l->weights, g->weights, g->weight_count * sizeof(double));
+    fault = line_fault(l);
+    /* 10: "or coordinates are no multiple of 3" */
+    if (g->coord_count % 3 != 0 && (fault == 0 || fault > 10)) fault = 10;
+    return fault;
+}
+
+/* The opening: the number, with 256 times the line for 4 to 15 and 18, or 0
+ * and the first state. */
+static int call_open(const Given given[2], const double range[2][2], double gap,
+                     uint32_t splits, const Lent *m, State *s)
+{
+    static Sheet sheet;
+    static Search breaks; /* for its breaks, widths and counts of pieces */
+    static double boxes[2][MAX_KNOTS + 1][6];
+    State first = { 0 };
+    Refusal r;
+    uint64_t pairs = 0;
+    int fault;
+    for (int i = 0; i < 2; i++) {
+        fault = take_given(&given[i], &sheet.line[i]);
+        if (fault) return fault + 256 * (i + 1);
+        fill_flat(&sheet.line[i]);
+    }
+    memcpy(sheet.range, range, sizeof sheet.range);
+    sheet.gap = gap;
+    sheet.splits_per_pair = splits;
+    r = ask(&sheet, &breaks);
+    if (r.number) return r.number + 256 * r.line;
+    for (int i = 0; i < 2; i++)
+        if (4 * (size_t)breaks.width[i] * breaks.piece_count[i] > m->pieces[i].length)
+            return 19;
+    for (int i = 0; i < 2; i++)
+        for (uint32_t j = 0; j < breaks.piece_count[i]; j++) {
+            static Hull h;
+            double *net = m->pieces[i].at + (size_t)j * 4 * breaks.width[i];
+            fill_piece(&sheet.line[i], breaks.breaks[i][j], breaks.breaks[i][j + 1], net);
+            fill_hull(net, (int)breaks.width[i], &h);
+            memcpy(boxes[i][j], h.box, sizeof h.box);
+        }
+    for (uint32_t i = 0; i < breaks.piece_count[0]; i++)
+        for (uint32_t j = 0; j < breaks.piece_count[1]; j++)
+            pairs += !boxes_apart(boxes[0][i], boxes[1][j], gap);
+    first.pairs = (uint16_t)pairs;
+    first.quota = (uint16_t)splits;
+    first.unspent = (uint32_t)(splits * pairs);
+    first.width[0] = (uint8_t)breaks.width[0];
+    first.width[1] = (uint8_t)breaks.width[1];
+    first.gap = gap;
+    if (!slices_fit(&first, m)) return 19;
+    for (uint32_t i = 0; i < breaks.piece_count[0]; i++)
+        for (uint32_t j = 0; j < breaks.piece_count[1]; j++) {
+            uint32_t at[2] = { i, j }, k = first.waiting;
+            if (boxes_apart(boxes[0][i], boxes[1][j], gap)) continue;
+            for (int x = 0; x < 2; x++) {
+                size_t w = 4 * (size_t)first.width[x];
+                memcpy(slot(&first, m, x, k), m->pieces[x].at + at[x] * w, w * sizeof(double));
+                memcpy(m->ranges.at + 4 * (size_t)k + 2 * x, breaks.breaks[x] + at[x], 2 * sizeof(double));
+            }
+            m->depths.at[k] = 0;
+            first.waiting++;
+        }
+    *s = first;
+    return 0;
+}
