@@ -95,20 +95,30 @@ wholeRegion x = zero64 ∷ one64 ∷ zero64 ∷ one64 ∷ zero64 ∷ zero64 ∷ 
 abbrev pub starred : List Case
 starred =
     -- with (0,2,0) to (2,0,0), gap 0: S 0 gives budget, left 1
-    record { asked = question lineA (straight zero64 two64 two64 zero64) zero64 0;
-      answer = record { word = 1; counts = 1 ∷ 1 ∷ 0 ∷ 0 ∷ 0 ∷ 1 ∷ 0 ∷ []; regions = wholeRegion two64; left = zero64 ∷ one64 ∷ zero64 ∷ one64 ∷ [] } }
+    record {
+      asked = question lineA (straight zero64 two64 two64 zero64) zero64 0;
+      answer = record { word = 1; counts = 1 ∷ 1 ∷ 0 ∷ 0 ∷ 0 ∷ 1 ∷ 0 ∷ []; regions = wholeRegion two64; left = zero64 ∷ one64 ∷ zero64 ∷ one64 ∷ [] };
+    }
     -- S 1 halves the second, visits 2, splits 1, left 2, one region of whole ranges
-    ∷ record { asked = question lineA (straight zero64 two64 two64 zero64) zero64 1;
-      answer = record { word = 1; counts = 1 ∷ 2 ∷ 1 ∷ 0 ∷ 0 ∷ 2 ∷ 0 ∷ []; regions = wholeRegion two64; left = zero64 ∷ one64 ∷ half64 ∷ one64 ∷ zero64 ∷ one64 ∷ zero64 ∷ half64 ∷ [] } }
+    ∷ record {
+      asked = question lineA (straight zero64 two64 two64 zero64) zero64 1;
+      answer = record { word = 1; counts = 1 ∷ 2 ∷ 1 ∷ 0 ∷ 0 ∷ 2 ∷ 0 ∷ []; regions = wholeRegion two64; left = zero64 ∷ one64 ∷ half64 ∷ one64 ∷ zero64 ∷ one64 ∷ zero64 ∷ half64 ∷ [] };
+    }
     -- with (1,0,0) to (3,2,0): gap 0.5 complete, settled 1
-    ∷ record { asked = question lineA (straight one64 zero64 three64 two64) half64 0;
-      answer = record { word = 0; counts = 1 ∷ 1 ∷ 0 ∷ 1 ∷ 0 ∷ 0 ∷ 0 ∷ []; regions = []; left = [] } }
+    ∷ record {
+      asked = question lineA (straight one64 zero64 three64 two64) half64 0;
+      answer = record { word = 0; counts = 1 ∷ 1 ∷ 0 ∷ 1 ∷ 0 ∷ 0 ∷ 0 ∷ []; regions = []; left = [] };
+    }
     -- gap 1 unseparated, given 1
-    ∷ record { asked = question lineA (straight one64 zero64 three64 two64) one64 0;
-      answer = record { word = 2; counts = 1 ∷ 1 ∷ 0 ∷ 0 ∷ 1 ∷ 0 ∷ 0 ∷ []; regions = wholeRegion three64; left = [] } }
+    ∷ record {
+      asked = question lineA (straight one64 zero64 three64 two64) one64 0;
+      answer = record { word = 2; counts = 1 ∷ 1 ∷ 0 ∷ 0 ∷ 1 ∷ 0 ∷ 0 ∷ []; regions = wholeRegion three64; left = [] };
+    }
     -- with (10,0,0) to (12,2,0), gap 0: pairs 0, complete
-    ∷ record { asked = question lineA (straight ten64 zero64 twelve64 two64) zero64 0;
-      answer = record { word = 0; counts = 0 ∷ 0 ∷ 0 ∷ 0 ∷ 0 ∷ 0 ∷ 0 ∷ []; regions = []; left = [] } }
+    ∷ record {
+      asked = question lineA (straight ten64 zero64 twelve64 two64) zero64 0;
+      answer = record { word = 0; counts = 0 ∷ 0 ∷ 0 ∷ 0 ∷ 0 ∷ 0 ∷ 0 ∷ []; regions = []; left = [] };
+    }
     ∷ []
 
 -- each case of the list comes out as it says

@@ -1,7 +1,7 @@
 // The tests on two nets: whether they are apart by a gap, along one line, or are to be halved.
 use boxes::Aabb;
-use verdicts::Verdict;
 use floats::Vector3D;
+use verdicts::Verdict;
 ghost use mathlib.Core.Path.{_≡_};
 ghost use Prim.Native.Nat.{_≤_};
 ghost use lib.ListN.{length};

@@ -54,30 +54,35 @@ OwnHeld q w (n ∷ r) = (block (4 * q .width1) (length r) (w .nets1) ≡ netOf1 
 -- a start that is long enough holds the search
 pub held-lent : (q : Asked) (m : Search (shape q)) (n : Sizes) (u : Memory) → Numbers q m → Held q m u → Room q (sizes (lend n u)) → Held q m (lend n u)
 held-lent q m n u N H R = record {
-    nodes = agree-stored q (pairsOf q + limit) u (lend n u) (m .stack) (agree-lend q n u R) (at-most (shape q) (pairsOf q) (m .stack) (N .counts .steep)) (H .nodes);
-    raw = take-take (length (m .given) * 10) (n .raw) (u .raw) (fits (length (take (n .raw) (u .raw))) (length-take (n .raw) (u .raw)) (R .raw)) ∙ H .raw }
+  nodes = agree-stored q (pairsOf q + limit) u (lend n u) (m .stack) (agree-lend q n u R) (at-most (shape q) (pairsOf q) (m .stack) (N .counts .steep)) (H .nodes);
+  raw = take-take (length (m .given) * 10) (n .raw) (u .raw) (fits (length (take (n .raw) (u .raw))) (length-take (n .raw) (u .raw)) (R .raw)) ∙ H .raw;
+}
   where
     fits : (k : ℕ) → k ≡ min (n .raw) (length (u .raw)) → pairsOf q * suc (q .quota) * 10 ≤ k → length (m .given) * 10 ≤ n .raw
     fits k e h = let g = given-small q m N in let f : length (m .given) * 10 ≤ pairsOf q * suc (q .quota) * 10 = mul-le-mul-right 10 (omega arith) in omega arith
 
 held-back : (q : Asked) (m : Search (shape q)) (n : Sizes) (w u : Memory) → Numbers q m → Held q m w → Room q (sizes w) → Held q m (giveBack n w u)
 held-back q m n w u N H R = record {
-    nodes = agree-stored q (pairsOf q + limit) w (giveBack n w u) (m .stack) (agree-back q n w u R) (at-most (shape q) (pairsOf q) (m .stack) (N .counts .steep)) (H .nodes);
-    raw = take-append-le (length (m .given) * 10) (w .raw) (drop (n .raw) (u .raw)) (let g = given-small q m N in fits-in (length (m .given)) (pairsOf q * suc (q .quota)) 10 (length (w .raw)) (omega arith) (R .raw)) ∙ H .raw }
+  nodes = agree-stored q (pairsOf q + limit) w (giveBack n w u) (m .stack) (agree-back q n w u R) (at-most (shape q) (pairsOf q) (m .stack) (N .counts .steep)) (H .nodes);
+  raw = take-append-le (length (m .given) * 10) (w .raw) (drop (n .raw) (u .raw)) (let g = given-small q m N in fits-in (length (m .given)) (pairsOf q * suc (q .quota)) 10 (length (w .raw)) (omega arith) (R .raw)) ∙ H .raw;
+}
 
 -- a call on what is lent, and the memory given back
 pub back-sim : (q : Asked) (full : Sizes) (m : Search (shape q)) (n : Sizes) (u : Memory) (o : Outcome) (r : Ruled q) → Inv q full m u → StepSim q o r m (lend n u) → Follows q full (backIn n u o) r
 back-sim q full m n u o r I (unchanged a s e f) = record {
-    answer = a;
-    state = s ∙ ap (stateOf q) (sym f);
-    inv = subst (λ (x : Search (shape q)). Inv q full x (giveBack n (o .memory) u)) (sym f) (subst (Inv q full m) (sym (ap (λ (w : Memory). giveBack n w u) e ∙ lend-back n u)) I) }
+  answer = a;
+  state = s ∙ ap (stateOf q) (sym f);
+  inv = subst (λ (x : Search (shape q)). Inv q full x (giveBack n (o .memory) u)) (sym f) (subst (Inv q full m) (sym (ap (λ (w : Memory). giveBack n w u) e ∙ lend-back n u)) I);
+}
 back-sim q full m n u o r I (moved a s H z R N) = record {
-    answer = a;
-    state = s;
-    inv = record {
-      numbers = N;
-      held = held-back q (r .search) n (o .memory) u N H (subst (Room q) (sym z) R);
-      lengths = back-sizes n (o .memory) u z ∙ I .lengths } }
+  answer = a;
+  state = s;
+  inv = record {
+    numbers = N;
+    held = held-back q (r .search) n (o .memory) u N H (subst (Room q) (sym z) R);
+    lengths = back-sizes n (o .memory) u z ∙ I .lengths;
+  };
+}
 
 suffices-is : (q : Asked) (full n : Sizes) (u : Memory) → sizes u ≡ full → enough (needed (stateOf q (start q))) (sizes (lend n u)) ≡ suffices q full n
 suffices-is q full n u e = ap (enough (needed (stateOf q (start q)))) (lend-sizes n u ∙ ap (lent n) e)
@@ -94,7 +99,7 @@ module _ (q : Asked) (low : (w : ℕ) (l : List Float) → length l ≡ 4 * w �
   pub own-fields : (l : List (Node (shape q))) (se : List (Settling (shape q))) (gi : List (Node (shape q))) (vi sp un : ℕ) (st to : Bool) (w : Memory)
       → Numbers q (search q l se gi vi sp un st to) → (RoomOwn q (sizes w) → OwnHeld q w l)
       → ownDef (q .geometry) (stateOf q (search q l se gi vi sp un st to)) w
-        ≡ cond (ended (shape q) (search q l se gi vi sp un st to)) OwnEnded (cond (enoughOwn (needed (stateOf q (start q))) (sizes w)) (testTop q l) OwnNoRoom)
+      ≡ cond (ended (shape q) (search q l se gi vi sp un st to)) OwnEnded (cond (enoughOwn (needed (stateOf q (start q))) (sizes w)) (testTop q l) OwnNoRoom)
   own-fields l se gi vi sp un true to w N H = refl
   own-fields [] se gi vi sp un false to w N H = refl
   own-fields (n ∷ r) se gi vi sp un false to w N H =
@@ -109,15 +114,16 @@ module _ (q : Asked) (low : (w : ℕ) (l : List Float) → length l ≡ 4 * w �
 
   own-lent : (l : List (Node (shape q))) (n : Sizes) (u : Memory) → length l ≤ pairsOf q + limit → AllStored q u l → RoomOwn q (sizes (lend n u)) → OwnHeld q (lend n u) l
   own-lent [] n u h z R = tt
-  own-lent (x ∷ r) n u h z R =
-      (start-block q (n .nets1) (u .nets1) (4 * q .width1) (length r) h (R .nets1) ∙ z .0 .net1,
-       start-block q (n .nets2) (u .nets2) (4 * q .width2) (length r) h (R .nets2) ∙ z .0 .net2,
-       start-block q (n .depths) (u .depths) 1 (length r) h (R .depths) ∙ z .0 .depth)
+  own-lent (x ∷ r) n u h z R = (
+    start-block q (n .nets1) (u .nets1) (4 * q .width1) (length r) h (R .nets1) ∙ z .0 .net1,
+    start-block q (n .nets2) (u .nets2) (4 * q .width2) (length r) h (R .nets2) ∙ z .0 .net2,
+    start-block q (n .depths) (u .depths) 1 (length r) h (R .depths) ∙ z .0 .depth,
+  )
 
   pub own-is : (m : Search (shape q)) (u : Memory) (n : Sizes) → Inv q full m u → ownDef (q .geometry) (stateOf q m) (lend n u) ≡ ownRule q full n m
   own-is m u n I =
       own-fields (m .stack) (m .settled) (m .given) (m .visits) (m .splits) (m .unspent) (m .stopped) (m .told) (lend n u) (I .numbers)
-        (own-lent (m .stack) n u (at-most (shape q) (pairsOf q) (m .stack) (I .numbers .counts .steep)) (I .held .nodes))
+      (own-lent (m .stack) n u (at-most (shape q) (pairsOf q) (m .stack) (I .numbers .counts .steep)) (I .held .nodes))
       ∙ ap (λ (s : Sizes). cond (ended (shape q) m) OwnEnded (cond (enoughOwn (needed (stateOf q (start q))) s) (testTop q (m .stack)) OwnNoRoom)) (lend-sizes n u ∙ ap (lent n) (I .lengths))
 
 -- ---- report
@@ -157,9 +163,9 @@ module _ (q : Asked) (m : Search (shape q)) (w : Memory) (N : Numbers q m) (R : 
       let X = leftRegions (q .geometry) (stateOf q m) (w .nets1) (w .nets2) (w .ranges) (length (m .stack)) in
       let L = map f (m .given) ++ X in
       let size : length L ≡ length (m .given) + length (m .stack) =
-            length-append (map f (m .given)) X ∙ ap (λ (z : ℕ). z + length X) (length-mapped f (m .given)) ∙ ap (λ (z : ℕ). length (m .given) + z) left-count in
+      length-append (map f (m .given)) X ∙ ap (λ (z : ℕ). z + length X) (length-mapped f (m .given)) ∙ ap (λ (z : ℕ). length (m .given) + z) left-count in
       let ten : length L * 10 ≡ length (m .given) * 10 + length (flats X) =
-            ap (λ (z : ℕ). z * 10) size ∙ add-mul (length (m .given)) (length (m .stack)) 10 ∙ ap (λ (z : ℕ). length (m .given) * 10 + z * 10) (sym left-count) ∙ ap (λ (z : ℕ). length (m .given) * 10 + z) (sym (flats-length X)) in
+      ap (λ (z : ℕ). z * 10) size ∙ add-mul (length (m .given)) (length (m .stack)) 10 ∙ ap (λ (z : ℕ). length (m .given) * 10 + z * 10) (sym left-count) ∙ ap (λ (z : ℕ). length (m .given) * 10 + z) (sym (flats-length X)) in
       let whole = patch (w .raw) (length (m .given) * 10) (flats X) in
       ap (λ (z : ℕ). regionsIn z whole) (sym size)
       ∙ regionsIn-take L whole (ap (λ (z : ℕ). take z whole) ten ∙ raw-more q (m .given) X (w .raw) given-room (H .raw))
@@ -168,8 +174,8 @@ module _ (q : Asked) (m : Search (shape q)) (w : Memory) (N : Numbers q m) (R : 
 
   write-sim : (slice : List Float)
       → StepSim q (reportOutcome (stateOf q m) (writeReport (q .geometry) (stateOf q m) w slice))
-        (record { answer = reported (Told (wordFor (length (m .given)) (length (m .stack))) (tally q m) (length (merged merging (rawList q m)))) (reportSlice (length (m .given) + length (m .stack)) (merged merging (rawList q m)) slice); search = m })
-        m w
+      (record { answer = reported (Told (wordFor (length (m .given)) (length (m .stack))) (tally q m) (length (merged merging (rawList q m)))) (reportSlice (length (m .given) + length (m .stack)) (merged merging (rawList q m)) slice); search = m })
+      m w
   write-sim slice =
       let X = leftRegions (q .geometry) (stateOf q m) (w .nets1) (w .nets2) (w .ranges) (length (m .stack)) in
       moved
@@ -177,33 +183,45 @@ module _ (q : Asked) (m : Search (shape q)) (w : Memory) (N : Numbers q m) (R : 
       refl
       (record {
         nodes = agree-stored q (length (m .stack)) w _ (m .stack) (record { net1 = λ k h. refl; net2 = λ k h. refl; ranges = λ k h. refl; depth = λ k h. refl }) (le-refl (length (m .stack))) (H .nodes);
-        raw = take-before (w .raw) (length (m .given) * 10) (flats X) given-room ∙ H .raw })
-      (λ i. record { nets1 = length (w .nets1); nets2 = length (w .nets2); ranges = length (w .ranges); depths = length (w .depths);
-        raw = patch-length (w .raw) (length (m .given) * 10) (flats X) (let a = room-raw in let b = add-mul (length (m .given)) (length (m .stack)) 10 in let c = flats-length X in let d : length X * 10 ≡ length (m .stack) * 10 = ap (λ (z : ℕ). z * 10) left-count in omega arith) i })
+        raw = take-before (w .raw) (length (m .given) * 10) (flats X) given-room ∙ H .raw;
+      })
+      (λ i. record {
+        nets1 = length (w .nets1);
+        nets2 = length (w .nets2);
+        ranges = length (w .ranges);
+        depths = length (w .depths);
+        raw = patch-length (w .raw) (length (m .given) * 10) (flats X) (let a = room-raw in let b = add-mul (length (m .given)) (length (m .stack)) 10 in let c = flats-length X in let d : length X * 10 ≡ length (m .stack) * 10 = ap (λ (z : ℕ). z * 10) left-count in omega arith) i;
+      })
       R N
 
 abbrev pub reportWith : (q : Asked) → Bool → List Float → Search (shape q) → Answer
 reportWith q e slice m =
     cond (ended (shape q) m)
     (cond (e && leb (pairsOf q * suc (q .quota) * 10) (length slice))
-      (let raws = rawList q m in
-       reported (Told (wordFor (length (m .given)) (length (m .stack))) (tally q m) (length (merged merging raws))) (reportSlice (length (m .given) + length (m .stack)) (merged merging raws) slice))
-      (reported ReportNoRoom slice))
+    (let raws = rawList q m in
+    reported (Told (wordFor (length (m .given)) (length (m .stack))) (tally q m) (length (merged merging raws))) (reportSlice (length (m .given) + length (m .stack)) (merged merging raws) slice))
+    (reported ReportNoRoom slice))
     (reported Running slice)
 
 module _ (q : Asked) (full : Sizes) where
   report-ended : (m : Search (shape q)) (w : Memory) (slice : List Float) → Numbers q m → (Room q (sizes w) → Held q m w)
       → StepSim q (reportOutcome (stateOf q m) (cond (enough (needed (stateOf q (start q))) (sizes w) && leb (pairsOf q * suc (q .quota) * 10) (length slice) && isSearch (stateOf q m) w) (writeReport (q .geometry) (stateOf q m) w slice) (reporting ReportNoRoom w slice)))
-        (record { answer = cond (enough (needed (stateOf q (start q))) (sizes w) && leb (pairsOf q * suc (q .quota) * 10) (length slice))
+      (record {
+        answer = cond (enough (needed (stateOf q (start q))) (sizes w) && leb (pairsOf q * suc (q .quota) * 10) (length slice))
             (reported (Told (wordFor (length (m .given)) (length (m .stack))) (tally q m) (length (merged merging (rawList q m)))) (reportSlice (length (m .given) + length (m .stack)) (merged merging (rawList q m)) slice))
-            (reported ReportNoRoom slice); search = m }) m w
+            (reported ReportNoRoom slice);
+        search = m;
+      }) m w
   report-ended m w slice N H = go (enough (needed (stateOf q (start q))) (sizes w)) (leb (pairsOf q * suc (q .quota) * 10) (length slice)) (isSearch (stateOf q m) w) (room-of q (sizes w)) (λ (R : Room q (sizes w)). is-search q m w N (top-depth q w (m .stack) (H R .nodes)))
     where
       go : (e b s : Bool) → (T e → Room q (sizes w)) → (Room q (sizes w) → T s)
           → StepSim q (reportOutcome (stateOf q m) (cond (e && b && s) (writeReport (q .geometry) (stateOf q m) w slice) (reporting ReportNoRoom w slice)))
-            (record { answer = cond (e && b)
-              (reported (Told (wordFor (length (m .given)) (length (m .stack))) (tally q m) (length (merged merging (rawList q m)))) (reportSlice (length (m .given) + length (m .stack)) (merged merging (rawList q m)) slice))
-              (reported ReportNoRoom slice); search = m }) m w
+          (record {
+            answer = cond (e && b)
+                (reported (Told (wordFor (length (m .given)) (length (m .stack))) (tally q m) (length (merged merging (rawList q m)))) (reportSlice (length (m .given) + length (m .stack)) (merged merging (rawList q m)) slice))
+                (reported ReportNoRoom slice);
+            search = m;
+          }) m w
       go false b s f g = unchanged refl refl refl refl
       go true false s f g = unchanged refl refl refl refl
       go true true false f g = absurd (g (f tt))
@@ -212,7 +230,7 @@ module _ (q : Asked) (full : Sizes) where
   pub report-fields : (l : List (Node (shape q))) (se : List (Settling (shape q))) (gi : List (Node (shape q))) (vi sp un : ℕ) (st to : Bool) (w : Memory) (slice : List Float)
       → Numbers q (search q l se gi vi sp un st to) → (Room q (sizes w) → Held q (search q l se gi vi sp un st to) w)
       → StepSim q (reportOutcome (stateOf q (search q l se gi vi sp un st to)) (reportDef (q .geometry) (stateOf q (search q l se gi vi sp un st to)) w slice))
-        (record { answer = reportWith q (enough (needed (stateOf q (start q))) (sizes w)) slice (search q l se gi vi sp un st to); search = search q l se gi vi sp un st to }) (search q l se gi vi sp un st to) w
+      (record { answer = reportWith q (enough (needed (stateOf q (start q))) (sizes w)) slice (search q l se gi vi sp un st to); search = search q l se gi vi sp un st to }) (search q l se gi vi sp un st to) w
   report-fields l se gi vi sp un true to w slice N H = report-ended (search q l se gi vi sp un true to) w slice N H
   report-fields [] se gi vi sp un false to w slice N H = report-ended (search q [] se gi vi sp un false to) w slice N H
   report-fields (n ∷ r) se gi vi sp un false to w slice N H = unchanged refl refl refl refl
@@ -228,9 +246,10 @@ module _ (q : Asked) (full : Sizes) where
 module _ (q : Asked) (low : (w : ℕ) (l : List Float) → length l ≡ 4 * w → length (q .geometry .lowerNet l) ≡ 4 * w) (upp : (w : ℕ) (l : List Float) → length l ≡ 4 * w → length (q .geometry .upperNet l) ≡ 4 * w) (full : Sizes) where
   pub hear-inv : (v : Verdict) (m : Search (shape q)) (u : Memory) → Inv q full m u → Inv q full (hear (shape q) v m) u
   hear-inv v m u I = record {
-      numbers = record { counts = record { balance = I .numbers .counts .balance; steep = I .numbers .counts .steep }; allowance = I .numbers .allowance; visited = I .numbers .visited };
-      held = record { nodes = I .held .nodes; raw = I .held .raw };
-      lengths = I .lengths }
+    numbers = record { counts = record { balance = I .numbers .counts .balance; steep = I .numbers .counts .steep }; allowance = I .numbers .allowance; visited = I .numbers .visited };
+    held = record { nodes = I .held .nodes; raw = I .held .raw };
+    lengths = I .lengths;
+  }
 
   heard-next : (a : Own) (m : Search (shape q)) (u : Memory) → Inv q full m u → Inv q full (heard q a m) u
   heard-next (Is v) m u I = hear-inv v m u I
@@ -260,7 +279,7 @@ module _ (q : Asked) (low : (w : ℕ) (l : List Float) → length l ≡ 4 * w �
     where
       go : Follows q full (call (q .geometry) c (stateOf q m) u) (callRule q full c m)
           → (call (q .geometry) c (stateOf q m) u .state ≡ stateOf q (callRule q full c m .search) → Inv q full (callRule q full c m .search) (call (q .geometry) c (stateOf q m) u .memory)
-            → Chained (runAll (q .geometry) cs (call (q .geometry) c (stateOf q m) u .state) (call (q .geometry) c (stateOf q m) u .memory)) (ruleAll q full cs (callRule q full c m .search)))
+          → Chained (runAll (q .geometry) cs (call (q .geometry) c (stateOf q m) u .state) (call (q .geometry) c (stateOf q m) u .memory)) (ruleAll q full cs (callRule q full c m .search)))
           → Chained (runAll (q .geometry) (c ∷ cs) (stateOf q m) u) (ruleAll q full (c ∷ cs) m)
       go h ih =
           let z = ih (h .state) (h .inv) in

@@ -124,11 +124,11 @@ module _ (q : Asked) (low : (w : ℕ) (l : List Float) → length l ≡ 4 * w �
       let S = I .held .nodes in
       let e = ap (enough (needed (stateOf q (start q)))) (I .lengths) ∙ room in
       let asked : ownDef G x u ≡ Is v = own-fields q low upp full (n ∷ r) se gi vi sp un false to u (I .numbers) (λ R. (S .0 .net1, S .0 .net2, S .0 .depth))
-        ∙ ap (λ (b : Bool). cond b (Is v) Rattle.search.specs.declared.Own.the-variants.NoRoom) (judges (needed (stateOf q (start q))) (sizes u) e) in
+      ∙ ap (λ (b : Bool). cond b (Is v) Rattle.search.specs.declared.Own.the-variants.NoRoom) (judges (needed (stateOf q (start q))) (sizes u) e) in
       let z = after-sim m1 u (stepOutcome x o) (ruleWith q true v m1) I1 (subst (λ (b : Bool). StepSim q (stepOutcome x o) (ruleWith q b v m1) m1 u) e (step-sim q low upp m1 u v (I1 .numbers) (λ R. I1 .held))) in
       let a : o .answer ≡ Next (stateOf q m2) = next-of (o .answer) (Next (stateOf q m2)) (z .0) in
       let p : runFor G (suc k) x u ≡ runFor G k (stateOf q m2) (o .memory)
-        = (λ i. turned (runFor G k) x (carriedOut G x u (asked i))) ∙ (λ i. turned (runFor G k) x (stepping (a i) (o .memory))) in
+      = (λ i. turned (runFor G k) x (carriedOut G x u (asked i))) ∙ (λ i. turned (runFor G k) x (stepping (a i) (o .memory))) in
       subst Looped (sym p) (go m2 (o .memory) (z .1) (ok-advance q v m1 (ok-hear q v m0 refl K)) (settled-own v n r se gi vi sp un O) (lower-rest v n r se gi vi sp un k (isSettle (shape q) v) h))
 
   loop : (k : ℕ) (m : Search (shape q)) (u : Memory) → Inv q full m u → Ok q m → AllOwn q (m .settled) → T (ended (shape q) m) ⊎ (rest q m < k) → Looped (runFor (q .geometry) k (stateOf q m) u)
@@ -163,9 +163,10 @@ in-nodes q s t (e ∷ l) (inr y) = inr (in-nodes q s t l y)
 
 clear-all : (q : Asked) (m : Search (shape q)) → Ok q m → AllOwn q (m .settled) → length (m .given) ≡ 0 → length (m .stack) ≡ 0 → Clear q
 clear-all q m K O g l = record {
-    nodes = map (λ (e : Settling (shape q)). e .node) (m .settled);
-    pass = all-pass q (m .settled) (K .cleared) O;
-    held = λ s t a b. by s t (K .covered s t a b) }
+  nodes = map (λ (e : Settling (shape q)). e .node) (m .settled);
+  pass = all-pass q (m .settled) (K .cleared) O;
+  held = λ s t a b. by s t (K .covered s t a b);
+}
   where
     by : (s t : Float) → Covered (shape q) (pieces1 q) (pieces2 q) m s t → SetApart (shape q) (pieces1 q) (pieces2 q) s t ⊎ Any (InNode (shape q) s t) (map (λ (e : Settling (shape q)). e .node) (m .settled))
     by s t (byBoxes h) = inl h
@@ -196,7 +197,7 @@ module _ (q : Asked) (full : Sizes) (room : enough (needed (stateOf q (start q))
     where
       go : (a b c : Bool) → T a → b ≡ true → c ≡ true
           → cond {A = Answer} a (cond (b && c) (reported (Told (wordFor (length (m .given)) (length (m .stack))) (tally q m) (length (merged merging (rawList q m)))) (reportSlice (length (m .given) + length (m .stack)) (merged merging (rawList q m)) slice)) (reported ReportNoRoom slice)) (reported Running slice)
-            ≡ reported (Told (wordFor (length (m .given)) (length (m .stack))) (tally q m) (length (merged merging (rawList q m)))) (reportSlice (length (m .given) + length (m .stack)) (merged merging (rawList q m)) slice)
+          ≡ reported (Told (wordFor (length (m .given)) (length (m .stack))) (tally q m) (length (merged merging (rawList q m)))) (reportSlice (length (m .given) + length (m .stack)) (merged merging (rawList q m)) slice)
       go true true true t e f = refl
       go true true false t e f = absurd (false≢true f)
       go true false c t e f = absurd (false≢true e)
@@ -204,10 +205,14 @@ module _ (q : Asked) (full : Sizes) (room : enough (needed (stateOf q (start q))
 
   reports-all : Reports q (reportDef (q .geometry) (stateOf q m) w slice)
   reports-all = record {
-      search = m; word = wordFor (length (m .given)) (length (m .stack)); counts = tally q m; regions = length (merged merging (rawList q m));
-      told = same-answer _ _ _ _ told-all;
-      good = subst (λ (l : List Float). GoodReport q m (wordFor (length (m .given)) (length (m .stack))) (tally q m) (length (merged merging (rawList q m))) l) (sym (same-slice _ _ _ _ told-all)) (good-report q m slice K E);
-      settled = each (m .settled) (K .cleared) O }
+    search = m;
+    word = wordFor (length (m .given)) (length (m .stack));
+    counts = tally q m;
+    regions = length (merged merging (rawList q m));
+    told = same-answer _ _ _ _ told-all;
+    good = subst (λ (l : List Float). GoodReport q m (wordFor (length (m .given)) (length (m .stack))) (tally q m) (length (merged merging (rawList q m))) l) (sym (same-slice _ _ _ _ told-all)) (good-report q m slice K E);
+    settled = each (m .settled) (K .cleared) O;
+  }
     where
       each : (l : List (Settling (shape q))) → All (Cleared q) l → AllOwn q l → All (λ (e : Settling (shape q)). Passes q (e .node)) l
       each [] c o = tt
@@ -230,18 +235,19 @@ is-true false t = absurd t
 module _ (q : Asked) (u : Memory) (F : Fine q) (room : T (enough (needed (stateOf q (start q))) (sizes u))) where
   pub loop-claims : Claims q (stateOf q (start q)) (openMemory q u)
   loop-claims =
-      let L = from-start q (F .lower-length) (F .upper-length) (sizes u) (is-true (enough (needed (stateOf q (start q))) (sizes u)) room) (openMemory q u) F (open-inv q u F room) in
-      (record { last = stateOf q (L .last); answer = L .answer; finished = over-ended q (L .last) ∙ is-true (ended (shape q) (L .last)) (L .finished) },
-       λ y e slice c k r.
-        let s = same-next y (stateOf q (L .last)) (sym e ∙ L .answer) in
-        let w = told-word (q .geometry) y (runDef (q .geometry) (stateOf q (start q)) (openMemory q u) .memory) slice Complete c k r in
-        let z = word-exact (length (L .last .given)) (length (L .last .stack)) .0 (subst (λ (x : State). wordFor (x .given) (x .waiting) ≡ Complete) s w) in
-        clear-all q (L .last) (L .ok) (L .own) (z .0) (z .1),
-       λ y e slice h.
-        let s = same-next y (stateOf q (L .last)) (sym e ∙ L .answer) in
-        let w = runDef (q .geometry) (stateOf q (start q)) (openMemory q u) .memory in
-        subst (λ (x : State). Reports q (reportDef (q .geometry) x w slice)) (sym s)
-        (reports-all q (sizes u) (is-true (enough (needed (stateOf q (start q))) (sizes u)) room) (L .last) w (L .inv) (L .ok) (L .own) (L .finished) slice (le-leb (pairsOf q * suc (q .quota) * 10) (length slice) h)))
+      let L = from-start q (F .lower-length) (F .upper-length) (sizes u) (is-true (enough (needed (stateOf q (start q))) (sizes u)) room) (openMemory q u) F (open-inv q u F room) in (
+        record { last = stateOf q (L .last); answer = L .answer; finished = over-ended q (L .last) ∙ is-true (ended (shape q) (L .last)) (L .finished) },
+        λ y e slice c k r.
+            let s = same-next y (stateOf q (L .last)) (sym e ∙ L .answer) in
+            let w = told-word (q .geometry) y (runDef (q .geometry) (stateOf q (start q)) (openMemory q u) .memory) slice Complete c k r in
+            let z = word-exact (length (L .last .given)) (length (L .last .stack)) .0 (subst (λ (x : State). wordFor (x .given) (x .waiting) ≡ Complete) s w) in
+            clear-all q (L .last) (L .ok) (L .own) (z .0) (z .1),
+        λ y e slice h.
+            let s = same-next y (stateOf q (L .last)) (sym e ∙ L .answer) in
+            let w = runDef (q .geometry) (stateOf q (start q)) (openMemory q u) .memory in
+            subst (λ (x : State). Reports q (reportDef (q .geometry) x w slice)) (sym s)
+            (reports-all q (sizes u) (is-true (enough (needed (stateOf q (start q))) (sizes u)) room) (L .last) w (L .inv) (L .ok) (L .own) (L .finished) slice (le-leb (pairsOf q * suc (q .quota) * 10) (length slice) h)),
+      )
 
 pub loop-ends : LoopEnds
 loop-ends q p1 p2 u x e = opened-fresh q p1 p2 u x (λ (y : State) (m : Memory). Claims (searchFor q) y m) (loop-claims (searchFor q) u) e .0

@@ -57,9 +57,10 @@ abbrev Bounded : ℕ → ℕ → Cut → Type 0
 Bounded C w c = Within C (c .to) × (length (c .net) ≡ 4 * w)
 
 fine-line : (w : ℕ) (from : Float) (cs : List Cut) → Within (2 ^ 20) from × All (Bounded (2 ^ 20) w) cs → FineLine w from cs
-fine-line w from cs h =
-    (within-more (2 ^ 20) (2 ^ 22) from (lit≤ tt) (h .0),
-     all-map (Bounded (2 ^ 20) w) (Bounded (2 ^ 22) w) (λ c k. (within-more (2 ^ 20) (2 ^ 22) (c .to) (lit≤ tt) (k .0), k .1)) cs (h .1))
+fine-line w from cs h = (
+  within-more (2 ^ 20) (2 ^ 22) from (lit≤ tt) (h .0),
+  all-map (Bounded (2 ^ 20) w) (Bounded (2 ^ 22) w) (λ c k. (within-more (2 ^ 20) (2 ^ 22) (c .to) (lit≤ tt) (k .0), k .1)) cs (h .1),
+)
 
 -- ---- halving keeps a net's length
 points-of : (w : ℕ) (l : List Float) → length l ≡ 4 * w → length l / 4 ≡ w
@@ -81,7 +82,8 @@ fine-search q a b f =
       covers1 = pieces-cover (q .line1) (q .lo1) (q .hi1) a (r .0);
       covers2 = pieces-cover (q .line2) (q .lo2) (q .hi2) b (r .1);
       lower-length = lower-long;
-      upper-length = upper-long }
+      upper-length = upper-long;
+    }
 
 -- ---- what an opening that was not refused leaves: a fresh search of a fine question, in memory that is long enough
 same-state : (x y : State) → Open x ≡ Open y → x ≡ y
@@ -94,6 +96,7 @@ module _ (q : Question) (p1 p2 : List Float) (u : Memory) (x : State) (P : State
     where
       yes : Pushing
       yes = pushing (Open (stateOf (searchFor q) (start (searchFor q)))) (openMemory (searchFor q) u)
+
       go : (b : Bool) → cond {A = Pushing} b yes (pushing NoRoom u) .answer ≡ Open x
           → (T b → P (stateOf (searchFor q) (start (searchFor q))) (openMemory (searchFor q) u)) → P x (cond {A = Pushing} b yes (pushing NoRoom u) .memory)
       go true e h = subst (λ (y : State). P y (openMemory (searchFor q) u)) (same-state (stateOf (searchFor q) (start (searchFor q))) x e) (h tt)

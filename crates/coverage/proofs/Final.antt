@@ -55,9 +55,10 @@ mid-fine p h = middle-within bound (p .lo) (p .hi) (lit< tt) (h .0) (h .1)
 pub halving : (q : Asked) → Halving (shape q)
 unfolding mid-fine
 halving q = record {
-    Sound = SoundPiece;
-    sound-half = sh;
-    keeps = λ p s h k. elim (le-total s (middle (p .lo) (p .hi)) (right-number (p .lo) s (k .0)) (within-number (2 ^ bound) (middle (p .lo) (p .hi)) (mid-fine p h))) [ inl x ↦ inl (k .0, x) | inr y ↦ inr (y, k .1) ] }
+  Sound = SoundPiece;
+  sound-half = sh;
+  keeps = λ p s h k. elim (le-total s (middle (p .lo) (p .hi)) (right-number (p .lo) s (k .0)) (within-number (2 ^ bound) (middle (p .lo) (p .hi)) (mid-fine p h))) [ inl x ↦ inl (k .0, x) | inr y ↦ inr (y, k .1) ];
+}
   where
     sh : (u : Bool) (p : Piece) → SoundPiece p → SoundPiece (half (shape q) u p)
     sh true p h = (mid-fine p h, h .1)
@@ -69,15 +70,18 @@ Ends r = Number (r .a0) × Number (r .a1) × Number (r .b0) × Number (r .b1)
 
 keeping : Keeping merging (Float × Float)
 keeping = record {
-    Valid = Ends;
-    Has = λ r x. InRegion (x .0) (x .1) r;
-    valid-join = λ g r v w. (least-is (g .a0) (r .a0) (v .0) (w .0) .number, greatest-is (g .a1) (r .a1) (v .1) (w .1) .number, least-is (g .b0) (r .b0) (v .2) (w .2) .number, greatest-is (g .b1) (r .b1) (v .3) (w .3) .number);
-    has-left = λ g r x v w h.
-      ((le-trans-float (least (g .a0) (r .a0)) (g .a0) (x .0) (least-is (g .a0) (r .a0) (v .0) (w .0) .left) (h .0 .0), le-trans-float (x .0) (g .a1) (greatest (g .a1) (r .a1)) (h .0 .1) (greatest-is (g .a1) (r .a1) (v .1) (w .1) .left)),
-       (le-trans-float (least (g .b0) (r .b0)) (g .b0) (x .1) (least-is (g .b0) (r .b0) (v .2) (w .2) .left) (h .1 .0), le-trans-float (x .1) (g .b1) (greatest (g .b1) (r .b1)) (h .1 .1) (greatest-is (g .b1) (r .b1) (v .3) (w .3) .left)));
-    has-right = λ g r x v w h.
-      ((le-trans-float (least (g .a0) (r .a0)) (r .a0) (x .0) (least-is (g .a0) (r .a0) (v .0) (w .0) .right) (h .0 .0), le-trans-float (x .0) (r .a1) (greatest (g .a1) (r .a1)) (h .0 .1) (greatest-is (g .a1) (r .a1) (v .1) (w .1) .right)),
-       (le-trans-float (least (g .b0) (r .b0)) (r .b0) (x .1) (least-is (g .b0) (r .b0) (v .2) (w .2) .right) (h .1 .0), le-trans-float (x .1) (r .b1) (greatest (g .b1) (r .b1)) (h .1 .1) (greatest-is (g .b1) (r .b1) (v .3) (w .3) .right))) }
+  Valid = Ends;
+  Has = λ r x. InRegion (x .0) (x .1) r;
+  valid-join = λ g r v w. (least-is (g .a0) (r .a0) (v .0) (w .0) .number, greatest-is (g .a1) (r .a1) (v .1) (w .1) .number, least-is (g .b0) (r .b0) (v .2) (w .2) .number, greatest-is (g .b1) (r .b1) (v .3) (w .3) .number);
+  has-left = λ g r x v w h. (
+    (le-trans-float (least (g .a0) (r .a0)) (g .a0) (x .0) (least-is (g .a0) (r .a0) (v .0) (w .0) .left) (h .0 .0), le-trans-float (x .0) (g .a1) (greatest (g .a1) (r .a1)) (h .0 .1) (greatest-is (g .a1) (r .a1) (v .1) (w .1) .left)),
+    (le-trans-float (least (g .b0) (r .b0)) (g .b0) (x .1) (least-is (g .b0) (r .b0) (v .2) (w .2) .left) (h .1 .0), le-trans-float (x .1) (g .b1) (greatest (g .b1) (r .b1)) (h .1 .1) (greatest-is (g .b1) (r .b1) (v .3) (w .3) .left)),
+  );
+  has-right = λ g r x v w h. (
+    (le-trans-float (least (g .a0) (r .a0)) (r .a0) (x .0) (least-is (g .a0) (r .a0) (v .0) (w .0) .right) (h .0 .0), le-trans-float (x .0) (r .a1) (greatest (g .a1) (r .a1)) (h .0 .1) (greatest-is (g .a1) (r .a1) (v .1) (w .1) .right)),
+    (le-trans-float (least (g .b0) (r .b0)) (r .b0) (x .1) (least-is (g .b0) (r .b0) (v .2) (w .2) .right) (h .1 .0), le-trans-float (x .1) (r .b1) (greatest (g .b1) (r .b1)) (h .1 .1) (greatest-is (g .b1) (r .b1) (v .3) (w .3) .right)),
+  );
+}
 
 touch-comm : (g r : Region) → touchesOf g r ≡ touchesOf r g
 touch-comm g r = λ i. and-comm (le (g .a0) (r .a1)) (le (r .a0) (g .a1)) i && and-comm (le (g .b0) (r .b1)) (le (r .b0) (g .b1)) i
@@ -146,11 +150,12 @@ module _ (q : Asked) where
 
   pub ok-advance : (v : Verdict) (m : Search (shape q)) → Ok q m → Ok q (advance (shape q) v m)
   ok-advance v m k = record {
-      covered = λ s t a b. cover-advance (shape q) (halving q) (pieces1 q) (pieces2 q) s t v m (k .sound) (k .covered s t a b);
-      sound = sound-advance (shape q) (halving q) v m (k .sound);
-      soundGiven = given-top v (m .stack) m (k .sound) (k .soundGiven);
-      cleared = clear-top v (m .stack) m (k .honest) (k .cleared);
-      honest = honest-top v (m .stack) m refl (k .honest) }
+    covered = λ s t a b. cover-advance (shape q) (halving q) (pieces1 q) (pieces2 q) s t v m (k .sound) (k .covered s t a b);
+    sound = sound-advance (shape q) (halving q) v m (k .sound);
+    soundGiven = given-top v (m .stack) m (k .sound) (k .soundGiven);
+    cleared = clear-top v (m .stack) m (k .honest) (k .cleared);
+    honest = honest-top v (m .stack) m refl (k .honest);
+  }
 
   keep-covered : (v : Verdict) (m : Search (shape q)) (s t : Float) → Covered (shape q) (pieces1 q) (pieces2 q) m s t → Covered (shape q) (pieces1 q) (pieces2 q) (hear (shape q) v m) s t
   keep-covered v m s t (byBoxes h) = byBoxes h
@@ -165,9 +170,12 @@ module _ (q : Asked) where
 
   pub ok-hear : (v : Verdict) (m : Search (shape q)) → Says q v (m .stack) → Ok q m → Ok q (hear (shape q) v m)
   ok-hear v m h k = record {
-      covered = λ s t a b. keep-covered v m s t (k .covered s t a b);
-      sound = k .sound; soundGiven = k .soundGiven; cleared = k .cleared;
-      honest = said-settle v (m .stack) h }
+    covered = λ s t a b. keep-covered v m s t (k .covered s t a b);
+    sound = k .sound;
+    soundGiven = k .soundGiven;
+    cleared = k .cleared;
+    honest = said-settle v (m .stack) h;
+  }
 
   module _ (full : Sizes) where
     ok-step : (v : Verdict) (n : Sizes) (m : Search (shape q)) → Ok q m → Ok q (stepRule q full v n m .search)
@@ -209,9 +217,12 @@ region-valid : (q : Asked) (n : Node (shape q)) → SoundNode (shape q) (halving
 unfolding halving
 region-valid q n w =
     let a = sound-descend (shape q) (halving q) (n .a .piece) (n .a .halves) (w .0) in
-    let b = sound-descend (shape q) (halving q) (n .b .piece) (n .b .halves) (w .1) in
-    (within-number (2 ^ bound) (partOf (shape q) (n .a) .lo) (a .0), within-number (2 ^ bound) (partOf (shape q) (n .a) .hi) (a .1),
-     within-number (2 ^ bound) (partOf (shape q) (n .b) .lo) (b .0), within-number (2 ^ bound) (partOf (shape q) (n .b) .hi) (b .1))
+    let b = sound-descend (shape q) (halving q) (n .b .piece) (n .b .halves) (w .1) in (
+      within-number (2 ^ bound) (partOf (shape q) (n .a) .lo) (a .0),
+      within-number (2 ^ bound) (partOf (shape q) (n .a) .hi) (a .1),
+      within-number (2 ^ bound) (partOf (shape q) (n .b) .lo) (b .0),
+      within-number (2 ^ bound) (partOf (shape q) (n .b) .hi) (b .1),
+    )
 
 regions-valid : (q : Asked) (l : List (Node (shape q))) → All (SoundNode (shape q) (halving q)) l → All Ends (map (regionOf (q .geometry) (q .gap)) l)
 regions-valid q [] w = tt
@@ -260,7 +271,8 @@ good-report q m slice k e =
       tallied = refl;
       accounted = λ s t a b. account q m k s t (k .covered s t a b);
       disjoint = merged-off merging off-comm raws;
-      exact = subst (λ (x : ℕ). (wordFor (length (m .given)) (length (m .stack)) ≡ Complete) ↔ ((length (m .given) ≡ 0) × (x ≡ 0))) (sym (left-ended (ended (shape q) m) (length (m .stack)) e)) (word-exact (length (m .given)) (length (m .stack))) }
+      exact = subst (λ (x : ℕ). (wordFor (length (m .given)) (length (m .stack)) ≡ Complete) ↔ ((length (m .given) ≡ 0) × (x ≡ 0))) (sym (left-ended (ended (shape q) m) (length (m .stack)) e)) (word-exact (length (m .given)) (length (m .stack)));
+    }
 
 module _ (q : Asked) (full : Sizes) where
   good-step : (v : Verdict) (n : Sizes) (m m' : Search (shape q)) → GoodAnswer q m' (stepRule q full v n m .answer)
@@ -286,8 +298,8 @@ module _ (q : Asked) (full : Sizes) where
       go : (a b : Bool)
           → (T a → GoodReport q m (wordFor (length (m .given)) (length (m .stack))) (tally q m) (length (merged merging (rawList q m))) (reportSlice (length (m .given) + length (m .stack)) (merged merging (rawList q m)) slice))
           → GoodAnswer q m (cond a (cond b
-              (reported (Told (wordFor (length (m .given)) (length (m .stack))) (tally q m) (length (merged merging (rawList q m)))) (reportSlice (length (m .given) + length (m .stack)) (merged merging (rawList q m)) slice))
-              (reported ReportNoRoom slice)) (reported Running slice))
+          (reported (Told (wordFor (length (m .given)) (length (m .stack))) (tally q m) (length (merged merging (rawList q m)))) (reportSlice (length (m .given) + length (m .stack)) (merged merging (rawList q m)) slice))
+          (reported ReportNoRoom slice)) (reported Running slice))
       go false b f = tt
       go true false f = tt
       go true true f = f tt
@@ -336,13 +348,14 @@ module _ (q : Asked) (full : Sizes) where
 pub ok-start : (q : Asked) → Fine q → Ok q (start q)
 unfolding halving
 ok-start q O = record {
-    covered = λ s t a b. cover-fresh (shape q) s t (pieces1 q) (pieces2 q) (q .quota * pairsOf q) (O .covers1 s a) (O .covers2 t b);
-    sound = sound-fresh (shape q) (halving q) (pieces1 q) (pieces2 q) (q .quota * pairsOf q)
+  covered = λ s t a b. cover-fresh (shape q) s t (pieces1 q) (pieces2 q) (q .quota * pairsOf q) (O .covers1 s a) (O .covers2 t b);
+  sound = sound-fresh (shape q) (halving q) (pieces1 q) (pieces2 q) (q .quota * pairsOf q)
       (all-pieces SoundPiece (q .width1) (q .lo1) (q .cuts1) (λ lo hi l x y e. (x, y)) (O .fine1))
       (all-pieces SoundPiece (q .width2) (q .lo2) (q .cuts2) (λ lo hi l x y e. (x, y)) (O .fine2));
-    soundGiven = tt;
-    cleared = tt;
-    honest = λ t. absurd t }
+  soundGiven = tt;
+  cleared = tt;
+  honest = λ t. absurd t;
+}
 
 pub fresh-claim : (q : Asked) (u : Memory) → Fine q → T (enough (needed (stateOf q (start q))) (sizes u)) → (cs : List Call) →
     (runAll (q .geometry) cs (stateOf q (start q)) (openMemory q u) .answers ≡ ruleAll q (sizes u) cs (start q) .answers)
@@ -352,14 +365,16 @@ fresh-claim q u O room cs =
     let z = chain q (O .lower-length) (O .upper-length) full cs (start q) (stateOf q (start q)) (openMemory q u) refl (open-inv q u O room) in
     let k = ok-all q full cs (start q) (ok-start q O) in
     let m = ruleAll q full cs (start q) .search in
-    let n = z .inv .numbers in
-    (z .answers,
-     record {
-       covered = k .covered;
-       balance = subst (λ (x : State). x .pairs + x .splits ≡ x .settled + x .given + x .waiting) (sym (z .state)) (n .counts .balance);
-       atMost = subst (λ (x : State). x .waiting ≤ x .pairs + 64) (sym (z .state)) (at-most (shape q) (pairsOf q) (m .stack) (n .counts .steep));
-       state = z .state;
-       nodes = z .inv .held .nodes;
-       givenUp = z .inv .held .raw;
-       reports = subst (All (GoodAnswer q m)) (sym (z .answers)) (good-all q full cs (start q) (ok-start q O));
-       cleared = k .cleared })
+    let n = z .inv .numbers in (
+      z .answers,
+      record {
+        covered = k .covered;
+        balance = subst (λ (x : State). x .pairs + x .splits ≡ x .settled + x .given + x .waiting) (sym (z .state)) (n .counts .balance);
+        atMost = subst (λ (x : State). x .waiting ≤ x .pairs + 64) (sym (z .state)) (at-most (shape q) (pairsOf q) (m .stack) (n .counts .steep));
+        state = z .state;
+        nodes = z .inv .held .nodes;
+        givenUp = z .inv .held .raw;
+        reports = subst (All (GoodAnswer q m)) (sym (z .answers)) (good-all q full cs (start q) (ok-start q O));
+        cleared = k .cleared;
+      },
+    )

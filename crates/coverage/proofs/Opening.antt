@@ -55,9 +55,10 @@ module _ {A B : Type 0} (w : ℕ) (f : B → List A) where
       let C = concat (map f r) in
       let L = pre ++ ((f n ++ C) ++ rest) in
       let p : (f n ++ C) ++ rest ≡ f n ++ (C ++ rest) = append-assoc (f n) C rest in
-      let move : (pre ++ f n) ++ (C ++ rest) ≡ L = append-assoc pre (f n) (C ++ rest) ∙ ap (λ (z : List A). pre ++ z) (sym p) in
-      (ap (take w) (drop-at pre ((f n ++ C) ++ rest) (j * w) e ∙ p) ∙ take-at (f n) (C ++ rest) w (h .0),
-       subst (Blk (suc j) r) move (blk (suc j) (pre ++ f n) r rest (length-append pre (f n) ∙ (λ i. e i + h .0 i) ∙ sym (suc-mul j w)) (h .1)))
+      let move : (pre ++ f n) ++ (C ++ rest) ≡ L = append-assoc pre (f n) (C ++ rest) ∙ ap (λ (z : List A). pre ++ z) (sym p) in (
+        ap (take w) (drop-at pre ((f n ++ C) ++ rest) (j * w) e ∙ p) ∙ take-at (f n) (C ++ rest) w (h .0),
+        subst (Blk (suc j) r) move (blk (suc j) (pre ++ f n) r rest (length-append pre (f n) ∙ (λ i. e i + h .0 i) ∙ sym (suc-mul j w)) (h .1)),
+      )
 
   concat-length : (ns : List B) → All (λ (n : B). length (f n) ≡ w) ns → length (concat (map f ns)) ≡ length ns * w
   concat-length [] h = omega (arith, native.Mathlib.Nat.zero-mul w)
@@ -85,28 +86,31 @@ open-inv q u O room =
     let N = pushedPairs q in
     let R = room-of q (sizes u) room in
     let la : All (λ (n : Node (shape q)). length (netOf1 q n) ≡ 4 * q .width1) N =
-          all-pushed (shape q) (λ (p : Piece). length (p .net) ≡ 4 * q .width1) (λ (p : Piece). Unit {0}) (λ (n : Node (shape q)). length (netOf1 q n) ≡ 4 * q .width1) (λ p p' a b. a) (pieces1 q) (pieces2 q)
-          (all-pieces (λ (p : Piece). length (p .net) ≡ 4 * q .width1) (q .width1) (q .lo1) (q .cuts1) (λ lo hi l x y e. e) (O .fine1)) (all-same (λ (p : Piece). Unit {0}) (λ (p : Piece). tt) (pieces2 q)) in
+    all-pushed (shape q) (λ (p : Piece). length (p .net) ≡ 4 * q .width1) (λ (p : Piece). Unit {0}) (λ (n : Node (shape q)). length (netOf1 q n) ≡ 4 * q .width1) (λ p p' a b. a) (pieces1 q) (pieces2 q)
+    (all-pieces (λ (p : Piece). length (p .net) ≡ 4 * q .width1) (q .width1) (q .lo1) (q .cuts1) (λ lo hi l x y e. e) (O .fine1)) (all-same (λ (p : Piece). Unit {0}) (λ (p : Piece). tt) (pieces2 q)) in
     let lb : All (λ (n : Node (shape q)). length (netOf2 q n) ≡ 4 * q .width2) N =
-          all-pushed (shape q) (λ (p : Piece). Unit {0}) (λ (p : Piece). length (p .net) ≡ 4 * q .width2) (λ (n : Node (shape q)). length (netOf2 q n) ≡ 4 * q .width2) (λ p p' a b. b) (pieces1 q) (pieces2 q)
-          (all-same (λ (p : Piece). Unit {0}) (λ (p : Piece). tt) (pieces1 q)) (all-pieces (λ (p : Piece). length (p .net) ≡ 4 * q .width2) (q .width2) (q .lo2) (q .cuts2) (λ lo hi l x y e. e) (O .fine2)) in
+    all-pushed (shape q) (λ (p : Piece). Unit {0}) (λ (p : Piece). length (p .net) ≡ 4 * q .width2) (λ (n : Node (shape q)). length (netOf2 q n) ≡ 4 * q .width2) (λ p p' a b. b) (pieces1 q) (pieces2 q)
+    (all-same (λ (p : Piece). Unit {0}) (λ (p : Piece). tt) (pieces1 q)) (all-pieces (λ (p : Piece). length (p .net) ≡ 4 * q .width2) (q .width2) (q .lo2) (q .cuts2) (λ lo hi l x y e. e) (O .fine2)) in
     let lr : All (λ (n : Node (shape q)). length (rangesOf q n) ≡ 4) N = all-same (λ (n : Node (shape q)). length (rangesOf q n) ≡ 4) (λ n. refl) N in
     let ld : All (λ (n : Node (shape q)). length (depthOf q n) ≡ 1) N = all-same (λ (n : Node (shape q)). length (depthOf q n) ≡ 1) (λ n. refl) N in
     record {
       numbers = record { counts = count-fresh (shape q) (pieces1 q) (pieces2 q) (q .quota * pairsOf q); allowance = omega arith; visited = omega arith };
       held = record {
         nodes = rev-stored q (openMemory q u) N [] (up-of q (openMemory q u) 0 N
-          (blk (4 * q .width1) (netOf1 q) 0 [] N (drop (0 + length (concat (map (netOf1 q) N))) (u .nets1)) (sym (native.Mathlib.Nat.zero-mul (4 * q .width1))) la)
-          (blk (4 * q .width2) (netOf2 q) 0 [] N (drop (0 + length (concat (map (netOf2 q) N))) (u .nets2)) (sym (native.Mathlib.Nat.zero-mul (4 * q .width2))) lb)
-          (blk 4 (rangesOf q) 0 [] N (drop (0 + length (concat (map (rangesOf q) N))) (u .ranges)) refl lr)
-          (blk 1 (depthOf q) 0 [] N (drop (0 + length (concat (map (depthOf q) N))) (u .depths)) refl ld)) tt;
-        raw = refl };
+            (blk (4 * q .width1) (netOf1 q) 0 [] N (drop (0 + length (concat (map (netOf1 q) N))) (u .nets1)) (sym (native.Mathlib.Nat.zero-mul (4 * q .width1))) la)
+            (blk (4 * q .width2) (netOf2 q) 0 [] N (drop (0 + length (concat (map (netOf2 q) N))) (u .nets2)) (sym (native.Mathlib.Nat.zero-mul (4 * q .width2))) lb)
+            (blk 4 (rangesOf q) 0 [] N (drop (0 + length (concat (map (rangesOf q) N))) (u .ranges)) refl lr)
+            (blk 1 (depthOf q) 0 [] N (drop (0 + length (concat (map (depthOf q) N))) (u .depths)) refl ld)) tt;
+        raw = refl;
+      };
       lengths = λ i. record {
         nets1 = patch-length (u .nets1) 0 (concat (map (netOf1 q) N)) (fits (4 * q .width1) (concat-length (4 * q .width1) (netOf1 q) N la) (R .nets1)) i;
         nets2 = patch-length (u .nets2) 0 (concat (map (netOf2 q) N)) (fits (4 * q .width2) (concat-length (4 * q .width2) (netOf2 q) N lb) (R .nets2)) i;
         ranges = patch-length (u .ranges) 0 (concat (map (rangesOf q) N)) (fits 4 (concat-length 4 (rangesOf q) N lr) (R .ranges)) i;
         depths = patch-length (u .depths) 0 (concat (map (depthOf q) N)) (fits 1 (concat-length 1 (depthOf q) N ld) (R .depths)) i;
-        raw = length (u .raw) } }
+        raw = length (u .raw);
+      };
+    }
   where
     fits : {x len : ℕ} (w : ℕ) → x ≡ pairsOf q * w → (pairsOf q + limit) * w ≤ len → 0 + x ≤ len
     fits {x} {len} w e h = let f = fits-in (pairsOf q) (pairsOf q + limit) w len (omega arith) h in omega arith

@@ -40,12 +40,14 @@ pub record Agree (q : Asked) (K : ℕ) (u w : Memory) : Type 0 where
 pub agree-stored : (q : Asked) (K : ℕ) (u w : Memory) (l : List (Node (shape q))) → Agree q K u w → length l ≤ K → AllStored q u l → AllStored q w l
 agree-stored q K u w [] a h z = tt
 agree-stored q K u w (n ∷ r) a h z = (
-    record {
-      net1 = a .net1 (length r) h ∙ z .0 .net1;
-      net2 = a .net2 (length r) h ∙ z .0 .net2;
-      ranges = a .ranges (length r) h ∙ z .0 .ranges;
-      depth = a .depth (length r) h ∙ z .0 .depth },
-    agree-stored q K u w r a (omega arith) (z .1))
+  record {
+    net1 = a .net1 (length r) h ∙ z .0 .net1;
+    net2 = a .net2 (length r) h ∙ z .0 .net2;
+    ranges = a .ranges (length r) h ∙ z .0 .ranges;
+    depth = a .depth (length r) h ∙ z .0 .depth;
+  },
+  agree-stored q K u w r a (omega arith) (z .1),
+)
 
 -- ---- what a sufficient size gives
 pub record Room (q : Asked) (s : Sizes) : Type 0 where
@@ -71,7 +73,8 @@ room-of q s t =
       nets2 = leb→le ((P + limit) * (4 * q .width2)) (s .nets2) (and-l b2 (b3 && (b4 && b5)) t2);
       ranges = leb→le ((P + limit) * 4) (s .ranges) (and-l b3 (b4 && b5) t3);
       depths = leb→le ((P + limit) * 1) (s .depths) (and-l b4 b5 t4);
-      raw = leb→le (P * suc (q .quota) * 10) (s .raw) (and-r b4 b5 t4) }
+      raw = leb→le (P * suc (q .quota) * 10) (s .raw) (and-r b4 b5 t4);
+    }
 
 -- k slots fit
 pub fits-in : (k K n len : ℕ) → k ≤ K → K * n ≤ len → k * n ≤ len
@@ -93,7 +96,8 @@ room-own q s t =
     record {
       nets1 = leb→le ((P + limit) * (4 * q .width1)) (s .nets1) (and-l b1 (b2 && b4) t);
       nets2 = leb→le ((P + limit) * (4 * q .width2)) (s .nets2) (and-l b2 b4 t2);
-      depths = leb→le ((P + limit) * 1) (s .depths) (and-r b2 b4 t2) }
+      depths = leb→le ((P + limit) * 1) (s .depths) (and-r b2 b4 t2);
+    }
 
 -- the slot k of a start that is long enough
 pub start-block : {A : Type 0} (q : Asked) (N : ℕ) (l : List A) (w k : ℕ) → k < pairsOf q + limit → (pairsOf q + limit) * w ≤ length (take N l) → block w k (take N l) ≡ block w k l
@@ -102,36 +106,40 @@ start-block q N l w k h r = let m = length-take N l in let f : suc k * w ≤ (pa
 -- ---- a start that is long enough holds the same nodes; and so does a memory given back
 pub agree-lend : (q : Asked) (n : Sizes) (u : Memory) → Room q (sizes (lend n u)) → Agree q (pairsOf q + limit) u (lend n u)
 agree-lend q n u r = record {
-    net1 = λ k h. block-take (4 * q .width1) k (n .nets1) (u .nets1) (go (n .nets1) (u .nets1) (4 * q .width1) k h (r .nets1));
-    net2 = λ k h. block-take (4 * q .width2) k (n .nets2) (u .nets2) (go (n .nets2) (u .nets2) (4 * q .width2) k h (r .nets2));
-    ranges = λ k h. block-take 4 k (n .ranges) (u .ranges) (go (n .ranges) (u .ranges) 4 k h (r .ranges));
-    depth = λ k h. block-take 1 k (n .depths) (u .depths) (go (n .depths) (u .depths) 1 k h (r .depths)) }
+  net1 = λ k h. block-take (4 * q .width1) k (n .nets1) (u .nets1) (go (n .nets1) (u .nets1) (4 * q .width1) k h (r .nets1));
+  net2 = λ k h. block-take (4 * q .width2) k (n .nets2) (u .nets2) (go (n .nets2) (u .nets2) (4 * q .width2) k h (r .nets2));
+  ranges = λ k h. block-take 4 k (n .ranges) (u .ranges) (go (n .ranges) (u .ranges) 4 k h (r .ranges));
+  depth = λ k h. block-take 1 k (n .depths) (u .depths) (go (n .depths) (u .depths) 1 k h (r .depths));
+}
   where
     go : {A : Type 0} (N : ℕ) (l : List A) (w k : ℕ) → k < pairsOf q + limit → (pairsOf q + limit) * w ≤ length (take N l) → suc k * w ≤ N
     go N l w k h r = let m = length-take N l in let f : suc k * w ≤ (pairsOf q + limit) * w = mul-le-mul-right w h in omega arith
 
 pub agree-back : (q : Asked) (n : Sizes) (w u : Memory) → Room q (sizes w) → Agree q (pairsOf q + limit) w (giveBack n w u)
 agree-back q n w u r = record {
-    net1 = λ k h. block-append (4 * q .width1) k (w .nets1) (drop (n .nets1) (u .nets1)) (fits-in (suc k) (pairsOf q + limit) (4 * q .width1) (length (w .nets1)) h (r .nets1));
-    net2 = λ k h. block-append (4 * q .width2) k (w .nets2) (drop (n .nets2) (u .nets2)) (fits-in (suc k) (pairsOf q + limit) (4 * q .width2) (length (w .nets2)) h (r .nets2));
-    ranges = λ k h. block-append 4 k (w .ranges) (drop (n .ranges) (u .ranges)) (fits-in (suc k) (pairsOf q + limit) 4 (length (w .ranges)) h (r .ranges));
-    depth = λ k h. block-append 1 k (w .depths) (drop (n .depths) (u .depths)) (fits-in (suc k) (pairsOf q + limit) 1 (length (w .depths)) h (r .depths)) }
+  net1 = λ k h. block-append (4 * q .width1) k (w .nets1) (drop (n .nets1) (u .nets1)) (fits-in (suc k) (pairsOf q + limit) (4 * q .width1) (length (w .nets1)) h (r .nets1));
+  net2 = λ k h. block-append (4 * q .width2) k (w .nets2) (drop (n .nets2) (u .nets2)) (fits-in (suc k) (pairsOf q + limit) (4 * q .width2) (length (w .nets2)) h (r .nets2));
+  ranges = λ k h. block-append 4 k (w .ranges) (drop (n .ranges) (u .ranges)) (fits-in (suc k) (pairsOf q + limit) 4 (length (w .ranges)) h (r .ranges));
+  depth = λ k h. block-append 1 k (w .depths) (drop (n .depths) (u .depths)) (fits-in (suc k) (pairsOf q + limit) 1 (length (w .depths)) h (r .depths));
+}
 
 pub lend-back : (n : Sizes) (u : Memory) → giveBack n (lend n u) u ≡ u
 lend-back n u = λ i. record {
-    nets1 = take-append-drop (n .nets1) (u .nets1) i;
-    nets2 = take-append-drop (n .nets2) (u .nets2) i;
-    ranges = take-append-drop (n .ranges) (u .ranges) i;
-    depths = take-append-drop (n .depths) (u .depths) i;
-    raw = take-append-drop (n .raw) (u .raw) i }
+  nets1 = take-append-drop (n .nets1) (u .nets1) i;
+  nets2 = take-append-drop (n .nets2) (u .nets2) i;
+  ranges = take-append-drop (n .ranges) (u .ranges) i;
+  depths = take-append-drop (n .depths) (u .depths) i;
+  raw = take-append-drop (n .raw) (u .raw) i;
+}
 
 pub lend-sizes : (n : Sizes) (u : Memory) → sizes (lend n u) ≡ lent n (sizes u)
 lend-sizes n u = λ i. record {
-    nets1 = length-take (n .nets1) (u .nets1) i;
-    nets2 = length-take (n .nets2) (u .nets2) i;
-    ranges = length-take (n .ranges) (u .ranges) i;
-    depths = length-take (n .depths) (u .depths) i;
-    raw = length-take (n .raw) (u .raw) i }
+  nets1 = length-take (n .nets1) (u .nets1) i;
+  nets2 = length-take (n .nets2) (u .nets2) i;
+  ranges = length-take (n .ranges) (u .ranges) i;
+  depths = length-take (n .depths) (u .depths) i;
+  raw = length-take (n .raw) (u .raw) i;
+}
 
 -- a memory given back has the lengths of the one that was lent from
 back-length : {A : Type 0} (N : ℕ) (l w : List A) → length w ≡ length (take N l) → length (w ++ drop N l) ≡ length l
@@ -139,11 +147,12 @@ back-length N l w e = let a = length-append w (drop N l) in let b = length-take 
 
 pub back-sizes : (n : Sizes) (w u : Memory) → sizes w ≡ sizes (lend n u) → sizes (giveBack n w u) ≡ sizes u
 back-sizes n w u e = λ i. record {
-    nets1 = back-length (n .nets1) (u .nets1) (w .nets1) (ap (λ (s : Sizes). s .nets1) e) i;
-    nets2 = back-length (n .nets2) (u .nets2) (w .nets2) (ap (λ (s : Sizes). s .nets2) e) i;
-    ranges = back-length (n .ranges) (u .ranges) (w .ranges) (ap (λ (s : Sizes). s .ranges) e) i;
-    depths = back-length (n .depths) (u .depths) (w .depths) (ap (λ (s : Sizes). s .depths) e) i;
-    raw = back-length (n .raw) (u .raw) (w .raw) (ap (λ (s : Sizes). s .raw) e) i }
+  nets1 = back-length (n .nets1) (u .nets1) (w .nets1) (ap (λ (s : Sizes). s .nets1) e) i;
+  nets2 = back-length (n .nets2) (u .nets2) (w .nets2) (ap (λ (s : Sizes). s .nets2) e) i;
+  ranges = back-length (n .ranges) (u .ranges) (w .ranges) (ap (λ (s : Sizes). s .ranges) e) i;
+  depths = back-length (n .depths) (u .depths) (w .depths) (ap (λ (s : Sizes). s .depths) e) i;
+  raw = back-length (n .raw) (u .raw) (w .raw) (ap (λ (s : Sizes). s .raw) e) i;
+}
 
 -- ---- the numbers of a search, and what the memory holds of it
 abbrev pub bit : Bool → ℕ
@@ -236,7 +245,8 @@ module _ (q : Asked) (low : (w : ℕ) (l : List Float) → length l ≡ 4 * w �
           net1 = block-first (4 * q .width1) k (u .nets1) (newNet1 q n true) (newNet1 q n false) (start-fits (4 * q .width1) (length (u .nets1)) (r .nets1)) (la true) ∙ ap (λ (p : Piece). p .net) pa;
           net2 = block-first (4 * q .width2) k (u .nets2) (newNet2 q n true) (newNet2 q n false) (start-fits (4 * q .width2) (length (u .nets2)) (r .nets2)) (lb true) ∙ ap (λ (p : Piece). p .net) pb;
           ranges = block-first 4 k (u .ranges) (newRanges q n true) (newRanges q n false) (start-fits 4 (length (u .ranges)) (r .ranges)) refl ∙ (λ i. pa i .lo ∷ pa i .hi ∷ pb i .lo ∷ pb i .hi ∷ []);
-          depth = block-first 1 k (u .depths) (newDepth q n) (newDepth q n) (start-fits 1 (length (u .depths)) (r .depths)) refl ∙ ap {B = List ℕ} (λ (d : ℕ). d ∷ []) (sym (child-depth (shape q) b true n)) }
+          depth = block-first 1 k (u .depths) (newDepth q n) (newDepth q n) (start-fits 1 (length (u .depths)) (r .depths)) refl ∙ ap {B = List ℕ} (λ (d : ℕ). d ∷ []) (sym (child-depth (shape q) b true n));
+        }
 
     pub split-lower : Stored q (splitAt q k u n) (suc k) (child (shape q) (larger (shape q) n) false n)
     split-lower =
@@ -247,23 +257,26 @@ module _ (q : Asked) (low : (w : ℕ) (l : List Float) → length l ≡ 4 * w �
           net1 = block-second (4 * q .width1) k (u .nets1) (newNet1 q n true) (newNet1 q n false) (start-fits (4 * q .width1) (length (u .nets1)) (r .nets1)) (la true) (la false) ∙ ap (λ (p : Piece). p .net) pa;
           net2 = block-second (4 * q .width2) k (u .nets2) (newNet2 q n true) (newNet2 q n false) (start-fits (4 * q .width2) (length (u .nets2)) (r .nets2)) (lb true) (lb false) ∙ ap (λ (p : Piece). p .net) pb;
           ranges = block-second 4 k (u .ranges) (newRanges q n true) (newRanges q n false) (start-fits 4 (length (u .ranges)) (r .ranges)) refl refl ∙ (λ i. pa i .lo ∷ pa i .hi ∷ pb i .lo ∷ pb i .hi ∷ []);
-          depth = block-second 1 k (u .depths) (newDepth q n) (newDepth q n) (start-fits 1 (length (u .depths)) (r .depths)) refl refl ∙ ap {B = List ℕ} (λ (d : ℕ). d ∷ []) (sym (child-depth (shape q) b false n)) }
+          depth = block-second 1 k (u .depths) (newDepth q n) (newDepth q n) (start-fits 1 (length (u .depths)) (r .depths)) refl refl ∙ ap {B = List ℕ} (λ (d : ℕ). d ∷ []) (sym (child-depth (shape q) b false n));
+        }
 
     -- the slots below stay
     pub split-below : Agree q k u (splitAt q k u n)
     split-below = record {
-        net1 = λ j h. block-before (4 * q .width1) j (k * (4 * q .width1)) (u .nets1) (newNet1 q n true ++ newNet1 q n false) (mul-le-mul-right (4 * q .width1) h) (start-fits (4 * q .width1) (length (u .nets1)) (r .nets1));
-        net2 = λ j h. block-before (4 * q .width2) j (k * (4 * q .width2)) (u .nets2) (newNet2 q n true ++ newNet2 q n false) (mul-le-mul-right (4 * q .width2) h) (start-fits (4 * q .width2) (length (u .nets2)) (r .nets2));
-        ranges = λ j h. block-before 4 j (k * 4) (u .ranges) (newRanges q n true ++ newRanges q n false) (mul-le-mul-right 4 h) (start-fits 4 (length (u .ranges)) (r .ranges));
-        depth = λ j h. block-before 1 j (k * 1) (u .depths) (newDepth q n ++ newDepth q n) (mul-le-mul-right 1 h) (start-fits 1 (length (u .depths)) (r .depths)) }
+      net1 = λ j h. block-before (4 * q .width1) j (k * (4 * q .width1)) (u .nets1) (newNet1 q n true ++ newNet1 q n false) (mul-le-mul-right (4 * q .width1) h) (start-fits (4 * q .width1) (length (u .nets1)) (r .nets1));
+      net2 = λ j h. block-before (4 * q .width2) j (k * (4 * q .width2)) (u .nets2) (newNet2 q n true ++ newNet2 q n false) (mul-le-mul-right (4 * q .width2) h) (start-fits (4 * q .width2) (length (u .nets2)) (r .nets2));
+      ranges = λ j h. block-before 4 j (k * 4) (u .ranges) (newRanges q n true ++ newRanges q n false) (mul-le-mul-right 4 h) (start-fits 4 (length (u .ranges)) (r .ranges));
+      depth = λ j h. block-before 1 j (k * 1) (u .depths) (newDepth q n ++ newDepth q n) (mul-le-mul-right 1 h) (start-fits 1 (length (u .depths)) (r .depths));
+    }
 
     pub split-sizes : sizes (splitAt q k u n) ≡ sizes u
     split-sizes = λ i. record {
-        nets1 = patch-length (u .nets1) (k * (4 * q .width1)) (newNet1 q n true ++ newNet1 q n false) (subst (λ (x : ℕ). k * (4 * q .width1) + x ≤ length (u .nets1)) (sym (pair-length (4 * q .width1) (newNet1 q n true) (newNet1 q n false) (la true) (la false))) (room2 k (4 * q .width1) (length (u .nets1)) fit (r .nets1))) i;
-        nets2 = patch-length (u .nets2) (k * (4 * q .width2)) (newNet2 q n true ++ newNet2 q n false) (subst (λ (x : ℕ). k * (4 * q .width2) + x ≤ length (u .nets2)) (sym (pair-length (4 * q .width2) (newNet2 q n true) (newNet2 q n false) (lb true) (lb false))) (room2 k (4 * q .width2) (length (u .nets2)) fit (r .nets2))) i;
-        ranges = patch-length (u .ranges) (k * 4) (newRanges q n true ++ newRanges q n false) (room2 k 4 (length (u .ranges)) fit (r .ranges)) i;
-        depths = patch-length (u .depths) (k * 1) (newDepth q n ++ newDepth q n) (room2 k 1 (length (u .depths)) fit (r .depths)) i;
-        raw = length (u .raw) }
+      nets1 = patch-length (u .nets1) (k * (4 * q .width1)) (newNet1 q n true ++ newNet1 q n false) (subst (λ (x : ℕ). k * (4 * q .width1) + x ≤ length (u .nets1)) (sym (pair-length (4 * q .width1) (newNet1 q n true) (newNet1 q n false) (la true) (la false))) (room2 k (4 * q .width1) (length (u .nets1)) fit (r .nets1))) i;
+      nets2 = patch-length (u .nets2) (k * (4 * q .width2)) (newNet2 q n true ++ newNet2 q n false) (subst (λ (x : ℕ). k * (4 * q .width2) + x ≤ length (u .nets2)) (sym (pair-length (4 * q .width2) (newNet2 q n true) (newNet2 q n false) (lb true) (lb false))) (room2 k (4 * q .width2) (length (u .nets2)) fit (r .nets2))) i;
+      ranges = patch-length (u .ranges) (k * 4) (newRanges q n true ++ newRanges q n false) (room2 k 4 (length (u .ranges)) fit (r .ranges)) i;
+      depths = patch-length (u .depths) (k * 1) (newDepth q n ++ newDepth q n) (room2 k 1 (length (u .depths)) fit (r .depths)) i;
+      raw = length (u .raw);
+    }
 
 -- ---- raw regions
 flats-append : (a b : List Region) → flats (a ++ b) ≡ flats a ++ flats b
@@ -344,28 +357,32 @@ module _ (q : Asked) (low : (w : ℕ) (l : List Float) → length l ≡ 4 * w �
         let c10 : suc (length gi) * 10 ≡ length gi * 10 + 10 = suc-mul (length gi) 10 in
         let rf = raw-fits in
         let st : givenState (length r) (stateOf q (search q (n ∷ r) se gi vi sp un false to)) ≡ stateOf q m' =
-              λ i. record { pairs = pairsOf q; quota = q .quota; waiting = length r; visits = suc vi; splits = sp; unspent = un; settled = length se; given = sym g1 i; width1 = q .width1; width2 = q .width2; gap = q .gap; stopped = false } in
+        λ i. record { pairs = pairsOf q; quota = q .quota; waiting = length r; visits = suc vi; splits = sp; unspent = un; settled = length se; given = sym g1 i; width1 = q .width1; width2 = q .width2; gap = q .gap; stopped = false } in
         moved
         (ap (λ (x : State). stepped (Next x)) st)
         st
-        (record { nodes = agree-stored q (length r) w _ r (record { net1 = λ k h. refl; net2 = λ k h. refl; ranges = λ k h. refl; depth = λ k h. refl }) (le-refl (length r)) (H .nodes .1);
-          raw = give-raw q gi n (w .raw) (omega arith) (H .raw) })
+        (record {
+          nodes = agree-stored q (length r) w _ r (record { net1 = λ k h. refl; net2 = λ k h. refl; ranges = λ k h. refl; depth = λ k h. refl }) (le-refl (length r)) (H .nodes .1);
+          raw = give-raw q gi n (w .raw) (omega arith) (H .raw);
+        })
         (λ i. record { nets1 = length (w .nets1); nets2 = length (w .nets2); ranges = length (w .ranges); depths = length (w .depths); raw = patch-length (w .raw) (length gi * 10) (flat (regionOf (q .geometry) (q .gap) n)) (omega arith) i })
         R
-        (record { counts = count-advance (shape q) (pairsOf q) Unseparated (search q (n ∷ r) se gi vi sp un false to) (N .counts);
+        (record {
+          counts = count-advance (shape q) (pairsOf q) Unseparated (search q (n ∷ r) se gi vi sp un false to) (N .counts);
           allowance = N .allowance;
-          visited = let v = N .visited in omega arith })
+          visited = let v = N .visited in omega arith;
+        })
 
     stop-sim : Numbers q (divide (shape q) false zero n r (search q (n ∷ r) se gi vi sp un false to))
         → StepSim q (stepOutcome (stateOf q (search q (n ∷ r) se gi vi sp un false to)) (divideAt (q .geometry) false zero (length r) (stateOf q (search q (n ∷ r) se gi vi sp un false to)) w (partOf (shape q) (n .a)) (partOf (shape q) (n .b)) (depth (shape q) n)))
-          (accepted q (divide (shape q) false zero n r (search q (n ∷ r) se gi vi sp un false to))) (search q (n ∷ r) se gi vi sp un false to) w
+        (accepted q (divide (shape q) false zero n r (search q (n ∷ r) se gi vi sp un false to))) (search q (n ∷ r) se gi vi sp un false to) w
     stop-sim K =
         let m' = divide (shape q) false zero n r (search q (n ∷ r) se gi vi sp un false to) in
         moved refl refl (record { nodes = H .nodes; raw = H .raw }) refl R K
 
     split-sim : (s : ℕ) → depth (shape q) n < limit → Numbers q (divide (shape q) false (suc s) n r (search q (n ∷ r) se gi vi sp un false to))
         → StepSim q (stepOutcome (stateOf q (search q (n ∷ r) se gi vi sp un false to)) (divideAt (q .geometry) false (suc s) (length r) (stateOf q (search q (n ∷ r) se gi vi sp un false to)) w (partOf (shape q) (n .a)) (partOf (shape q) (n .b)) (depth (shape q) n)))
-          (accepted q (divide (shape q) false (suc s) n r (search q (n ∷ r) se gi vi sp un false to))) (search q (n ∷ r) se gi vi sp un false to) w
+        (accepted q (divide (shape q) false (suc s) n r (search q (n ∷ r) se gi vi sp un false to))) (search q (n ∷ r) se gi vi sp un false to) w
     split-sim s d K =
         let m' = divide (shape q) false (suc s) n r (search q (n ∷ r) se gi vi sp un false to) in
         let dp = N .counts .steep .0 in
@@ -374,7 +391,8 @@ module _ (q : Asked) (low : (w : ℕ) (l : List Float) → length l ≡ 4 * w �
         moved refl refl
         (record {
           nodes = (split-lower q low upp (length r) w n fit R z, (split-upper q low upp (length r) w n fit R z, agree-stored q (length r) w (splitAt q (length r) w n) r (split-below q low upp (length r) w n fit R z) (le-refl (length r)) (H .nodes .1)));
-          raw = H .raw })
+          raw = H .raw;
+        })
         (split-sizes q low upp (length r) w n fit R z) R K
 
     -- the numbers after a Split
@@ -385,7 +403,7 @@ module _ (q : Asked) (low : (w : ℕ) (l : List Float) → length l ≡ 4 * w �
 
     divide-sim : (b : Bool) (k : ℕ) → un ≡ k → (T (not b) → depth (shape q) n < limit) → Balance (shape q) (pairsOf q) (divide (shape q) b k n r (search q (n ∷ r) se gi vi sp un false to))
         → StepSim q (stepOutcome (stateOf q (search q (n ∷ r) se gi vi sp un false to)) (divideAt (q .geometry) b k (length r) (stateOf q (search q (n ∷ r) se gi vi sp un false to)) w (partOf (shape q) (n .a)) (partOf (shape q) (n .b)) (depth (shape q) n)))
-          (accepted q (divide (shape q) b k n r (search q (n ∷ r) se gi vi sp un false to))) (search q (n ∷ r) se gi vi sp un false to) w
+        (accepted q (divide (shape q) b k n r (search q (n ∷ r) se gi vi sp un false to))) (search q (n ∷ r) se gi vi sp un false to) w
     divide-sim true k e f c = give-sim
     divide-sim false zero e f c = stop-sim (divide-numbers false zero e c)
     divide-sim false (suc k) e f c = split-sim k (f tt) (divide-numbers false (suc k) e c)
@@ -456,9 +474,10 @@ module _ (q : Asked) (low : (w : ℕ) (l : List Float) → length l ≡ 4 * w �
     where
       m : Search (shape q)
       m = search q (n ∷ r) se gi vi sp un false to
+
       go : (e s : Bool) → (T e → Room q (sizes w)) → (Room q (sizes w) → T s)
           → StepSim q (stepOutcome (stateOf q (search q (n ∷ r) se gi vi sp un false to)) (cond (e && s) (actOn (q .geometry) (suc (length r)) v (stateOf q (search q (n ∷ r) se gi vi sp un false to)) w) (stepping NoRoom w)))
-            (cond e (accepted q (advance (shape q) v (search q (n ∷ r) se gi vi sp un false to))) (record { answer = stepped NoRoom; search = search q (n ∷ r) se gi vi sp un false to })) (search q (n ∷ r) se gi vi sp un false to) w
+          (cond e (accepted q (advance (shape q) v (search q (n ∷ r) se gi vi sp un false to))) (record { answer = stepped NoRoom; search = search q (n ∷ r) se gi vi sp un false to })) (search q (n ∷ r) se gi vi sp un false to) w
       go false s f g = unchanged refl refl refl refl
       go true false f g = absurd (g (f tt))
       go true true f g = act-sim q low upp n r se gi vi sp un to w N (f tt) (H (f tt)) v

@@ -58,9 +58,9 @@ abbrev pub reportRule : (q : Asked) → Sizes → Sizes → List Float → Searc
 reportRule q full n slice m =
     cond (ended (shape q) m)
     (cond (suffices q full n && leb (pairsOf q * suc (q .quota) * 10) (length slice))
-      (let raws = rawList q m in
-       reported (Told (wordFor (length (m .given)) (length (m .stack))) (tally q m) (length (merged merging raws))) (reportSlice (length (m .given) + length (m .stack)) (merged merging raws) slice))
-      (reported ReportNoRoom slice))
+    (let raws = rawList q m in
+    reported (Told (wordFor (length (m .given)) (length (m .stack))) (tally q m) (length (merged merging raws))) (reportSlice (length (m .given) + length (m .stack)) (merged merging raws) slice))
+    (reported ReportNoRoom slice))
     (reported Running slice)
 
 abbrev pub callRule : (q : Asked) → Sizes → Call → Search (shape q) → Ruled q

@@ -92,12 +92,33 @@ fn put4(words: &mut [u64], i: usize, a: u64, b: u64, c: u64, d: u64)
 }
 
 fn put_numbers(st: State, words: &mut [u64]) {
-    put4(words, 0, st.pairs as u64, st.quota as u64, st.waiting as u64, st.visits);
-    put4(words, 4, st.splits as u64, st.unspent as u64, st.settled as u64, st.given as u64);
+    put4(
+        words,
+        0,
+        st.pairs as u64,
+        st.quota as u64,
+        st.waiting as u64,
+        st.visits,
+    );
+    put4(
+        words,
+        4,
+        st.splits as u64,
+        st.unspent as u64,
+        st.settled as u64,
+        st.given as u64,
+    );
 }
 
 fn put_rest(st: State, words: &mut [u64], gap: &mut f64) {
-    put4(words, 8, st.width1 as u64, st.width2 as u64, st.stopped as u64, 0);
+    put4(
+        words,
+        8,
+        st.width1 as u64,
+        st.width2 as u64,
+        st.stopped as u64,
+        0,
+    );
     *gap = st.gap;
 }
 
@@ -107,8 +128,22 @@ fn put_state(st: State, words: &mut [u64], gap: &mut f64) {
 }
 
 fn put_counts(w: Word, c: Counts, n: usize, words: &mut [u64]) {
-    put4(words, 0, word_number(w), c.pairs as u64, c.visits, c.splits as u64);
-    put4(words, 4, c.settled as u64, c.given as u64, c.left as u64, c.unspent as u64);
+    put4(
+        words,
+        0,
+        word_number(w),
+        c.pairs as u64,
+        c.visits,
+        c.splits as u64,
+    );
+    put4(
+        words,
+        4,
+        c.settled as u64,
+        c.given as u64,
+        c.left as u64,
+        c.unspent as u64,
+    );
     put(words, 8, n as u64);
 }
 
@@ -143,8 +178,34 @@ pub extern "C" fn clearance_open(
     words: &mut [u64],
     open_gap: &mut f64,
 ) -> u32 {
-    let q = Question { lo1, hi1, lo2, hi2, gap, splits };
-    let o = opening::open(q, degree1, knots1, mults1, coords1, weights1, degree2, knots2, mults2, coords2, weights2, pieces1, pieces2, nets1, nets2, ranges, depths, raw);
+    let q = Question {
+        lo1,
+        hi1,
+        lo2,
+        hi2,
+        gap,
+        splits,
+    };
+    let o = opening::open(
+        q,
+        degree1,
+        knots1,
+        mults1,
+        coords1,
+        weights1,
+        degree2,
+        knots2,
+        mults2,
+        coords2,
+        weights2,
+        pieces1,
+        pieces2,
+        nets1,
+        nets2,
+        ranges,
+        depths,
+        raw,
+    );
     match o {
         Opened::Open(st) => {
             put_state(st, words, open_gap);
@@ -175,7 +236,20 @@ pub extern "C" fn clearance_own_verdict<'a>(
     nets2: &'a [f64],
     depths: &[u8],
 ) -> u32 {
-    let st = State { pairs, quota, waiting, visits, splits, unspent, settled, given, width1, width2, gap, stopped };
+    let st = State {
+        pairs,
+        quota,
+        waiting,
+        visits,
+        splits,
+        unspent,
+        settled,
+        given,
+        width1,
+        width2,
+        gap,
+        stopped,
+    };
     let o = search::own_verdict(st, nets1, nets2, depths);
     match o {
         Own::Is(v) => verdict_number(v),
@@ -219,7 +293,20 @@ pub extern "C" fn clearance_step(
     words: &mut [u64],
     next_gap: &mut f64,
 ) -> u32 {
-    let st = State { pairs, quota, waiting, visits, splits, unspent, settled, given, width1, width2, gap, stopped };
+    let st = State {
+        pairs,
+        quota,
+        waiting,
+        visits,
+        splits,
+        unspent,
+        settled,
+        given,
+        width1,
+        width2,
+        gap,
+        stopped,
+    };
     let s = search::step(st, verdict_of(verdict), nets1, nets2, ranges, depths, raw);
     put_next(s, words, next_gap)
 }
@@ -247,7 +334,20 @@ pub extern "C" fn clearance_run(
     words: &mut [u64],
     next_gap: &mut f64,
 ) -> u32 {
-    let st = State { pairs, quota, waiting, visits, splits, unspent, settled, given, width1, width2, gap, stopped };
+    let st = State {
+        pairs,
+        quota,
+        waiting,
+        visits,
+        splits,
+        unspent,
+        settled,
+        given,
+        width1,
+        width2,
+        gap,
+        stopped,
+    };
     let s = search::run(st, nets1, nets2, ranges, depths, raw);
     put_next(s, words, next_gap)
 }
@@ -275,7 +375,20 @@ pub extern "C" fn clearance_report<'a>(
     out: &mut [f64],
     words: &mut [u64],
 ) -> u32 {
-    let st = State { pairs, quota, waiting, visits, splits, unspent, settled, given, width1, width2, gap, stopped };
+    let st = State {
+        pairs,
+        quota,
+        waiting,
+        visits,
+        splits,
+        unspent,
+        settled,
+        given,
+        width1,
+        width2,
+        gap,
+        stopped,
+    };
     let r = report::report(st, nets1, nets2, ranges, depths, raw, out);
     match r {
         Reported::Told(w, c, n) => {

@@ -101,6 +101,7 @@ sum-within k s a t b c K C h g = go (Bool·beq s t) (ltb a b)
   where
     twice : 2 ^ suc k * c ≡ 2 ^ k * c + 2 ^ k * c
     twice = ap (λ (z : ℕ). z * c) (double k) ∙ add-mul (2 ^ k) (2 ^ k) c
+
     go : (x y : Bool) → Within (2 ^ suc k) (cond x (round binary64 s (a + b) c) (cond y (round binary64 t (b - a) c) (round binary64 (s && ltb b a) (a - b) c)))
     go true y = round-within (suc k) s (a + b) c (omega arith) C (omega (arith, twice))
     go false true = round-within (suc k) t (b - a) c (omega arith) C (omega (arith, twice))
@@ -125,6 +126,7 @@ half-within k (fin t n d) K h = round-within k (unlike false t) (1 * up (negsuc 
   where
     finish : (x p q r : ℕ) → x ≤ p → p ≡ q + q → r ≡ q * 2 → 1 * 1 * x ≤ r
     finish x p q r h e g = omega arith
+
     go : (x y : ℕ) → x ≤ 2 ^ suc k * y → 1 * up (negsuc 0) * x ≤ 2 ^ k * (down (negsuc 0) * y)
     go x y h =
         let e : 2 ^ suc k * y ≡ 2 ^ k * y + 2 ^ k * y = ap (λ (z : ℕ). z * y) (double k) ∙ add-mul (2 ^ k) (2 ^ k) y in

@@ -15,9 +15,10 @@ crossed p q r s = sub binary64 (mul binary64 p q) (mul binary64 r s)
 
 abbrev pub crossOf : Vector3D → Vector3D → Vector3D
 crossOf a b = record {
-    x = crossed (a .y) (b .z) (a .z) (b .y);
-    y = crossed (a .z) (b .x) (a .x) (b .z);
-    z = crossed (a .x) (b .y) (a .y) (b .x) }
+  x = crossed (a .y) (b .z) (a .z) (b .y);
+  y = crossed (a .z) (b .x) (a .x) (b .z);
+  z = crossed (a .x) (b .y) (a .y) (b .x);
+}
 
 unfoldable pub normOf : Vector3D → Float
 unfolding dotOf

@@ -7,7 +7,6 @@ use Prim.Native.Nat.{ℕ, zero, suc, _+_, _≤_, _<_}
 use native.Mathlib.Omega.{arith}
 use lib.Dec.{T}
 use lib.ListN.{length, length-append}
-
 use Rattle.lists.specs.Members.{Any, All, Pairwise}
 
 module _ {A : Type 0} where

@@ -64,7 +64,7 @@ module _ {A : Type 0} where
       let z = patch l (k * n) (vs ++ ws) in
       let rest = drop (k * n + length (vs ++ ws)) l in
       let d : drop (suc k * n) z ≡ ws ++ rest =
-          ap (λ (j : ℕ). drop j z) (suc-mul k n) ∙ sym (drop-drop n (k * n) z) ∙ ap (drop n) (written (k * n) l vs ws h) ∙ drop-at vs (ws ++ rest) n e in
+      ap (λ (j : ℕ). drop j z) (suc-mul k n) ∙ sym (drop-drop n (k * n) z) ∙ ap (drop n) (written (k * n) l vs ws h) ∙ drop-at vs (ws ++ rest) n e in
       ap (take n) d ∙ take-at ws rest n g
 
   -- ---- an element of a slot
@@ -79,8 +79,8 @@ module _ {A : Type 0} where
       let w : take i l ++ (a ++ drop (i + length a) l) ≡ (take i l ++ a) ++ drop j l = sym (append-assoc (take i l) a (drop (i + length a) l)) ∙ ap (λ (k : ℕ). (take i l ++ a) ++ drop k l) (sym e) in
       let t : take j (patch l i a) ≡ take i l ++ a = ap (take j) w ∙ take-at (take i l ++ a) (drop j l) j f in
       let d : drop (j + length b) (patch l i a) ≡ drop (j + length b) l =
-            ap (drop (j + length b)) w ∙ sym (drop-drop (length b) j ((take i l ++ a) ++ drop j l))
-            ∙ ap (drop (length b)) (drop-at (take i l ++ a) (drop j l) j f) ∙ drop-drop (length b) j l in
+      ap (drop (j + length b)) w ∙ sym (drop-drop (length b) j ((take i l ++ a) ++ drop j l))
+      ∙ ap (drop (length b)) (drop-at (take i l ++ a) (drop j l) j f) ∙ drop-drop (length b) j l in
       let c : i + length (a ++ b) ≡ j + length b = simp length-append (omega arith) in
       rw (t, d, c) (append-assoc (take i l) a (b ++ drop (j + length b) l) ∙ ap (λ (z : List A). take i l ++ z) (sym (append-assoc a b (drop (j + length b) l))))
 

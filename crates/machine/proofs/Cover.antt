@@ -36,30 +36,33 @@ length-snoc l x = simp length-append (omega arith)
 
 count-give : (S : Shape) (P : ℕ) (n : Node S) (r : List (Node S)) (m : Search S) → m .stack ≡ n ∷ r → Counts S P m → Counts S P (giveUp S n r m)
 count-give S P n r m e c = record {
-    balance = let b = c .balance in let l : length (m .stack) ≡ length (n ∷ r) = ap length e in omega (arith, length-snoc (m .given) n);
-    steep = (subst (Deep S P) e (c .steep)) .2 }
+  balance = let b = c .balance in let l : length (m .stack) ≡ length (n ∷ r) = ap length e in omega (arith, length-snoc (m .given) n);
+  steep = (subst (Deep S P) e (c .steep)) .2;
+}
 
 count-divide : (S : Shape) (P : ℕ) (d : Bool) (k : ℕ) (n : Node S) (r : List (Node S)) (m : Search S)
     → (T (not d) → depth S n < limit) → m .stack ≡ n ∷ r → Counts S P m → Counts S P (divide S d k n r m)
 count-divide S P true k n r m f e c = count-give S P n r m e c
 count-divide S P false zero n r m f e c = record { balance = c .balance; steep = c .steep }
 count-divide S P false (suc k) n r m f e c = record {
-    balance = let b = c .balance in let l : length (m .stack) ≡ length (n ∷ r) = ap length e in omega arith;
-    steep =
+  balance = let b = c .balance in let l : length (m .stack) ≡ length (n ∷ r) = ap length e in omega arith;
+  steep =
       let h : Deep S P (n ∷ r) = subst (Deep S P) e (c .steep) in
       let x = child-depth S (larger S n) false n in
       let y = child-depth S (larger S n) true n in
       let z = f tt in
       let h0 = h .0 in
-      (omega arith, omega arith, (omega arith, omega arith, h .2)) }
+      (omega arith, omega arith, (omega arith, omega arith, h .2));
+}
 
 count-top : (S : Shape) (P : ℕ) (v : Verdict) (l : List (Node S)) (m : Search S) → m .stack ≡ l → Counts S P m → Counts S P (onTop S v l m)
 count-top S P Settled [] m e c = c
 count-top S P Split [] m e c = c
 count-top S P Unseparated [] m e c = c
 count-top S P Settled (n ∷ r) m e c = record {
-    balance = let b = c .balance in let l : length (m .stack) ≡ length (n ∷ r) = ap length e in omega arith;
-    steep = (subst (Deep S P) e (c .steep)) .2 }
+  balance = let b = c .balance in let l : length (m .stack) ≡ length (n ∷ r) = ap length e in omega arith;
+  steep = (subst (Deep S P) e (c .steep)) .2;
+}
 count-top S P Split (n ∷ r) m e c = count-divide S P (leb limit (depth S n)) (m .unspent) n r m (nleb→lt limit (depth S n)) e c
 count-top S P Unseparated (n ∷ r) m e c = count-give S P n r m e c
 
@@ -89,8 +92,9 @@ deep-flat S P (n ∷ r) h k = let z = k .0 in (omega arith, omega arith, deep-fl
 
 pub count-fresh : (S : Shape) (ps qs : List (S .Part)) (allowance : ℕ) → Counts S (length (pushed S ps qs)) (fresh S ps qs allowance)
 count-fresh S ps qs allowance = record {
-    balance = simp length-reverse (omega arith);
-    steep = deep-flat S (length (pushed S ps qs)) (reverse (pushed S ps qs)) (simp length-reverse (omega arith)) (all-reverse (λ (n : Node S). depth S n ≡ 0) (pushed S ps qs) (fresh-pushed S ps qs)) }
+  balance = simp length-reverse (omega arith);
+  steep = deep-flat S (length (pushed S ps qs)) (reverse (pushed S ps qs)) (simp length-reverse (omega arith)) (all-reverse (λ (n : Node S). depth S n ≡ 0) (pushed S ps qs) (fresh-pushed S ps qs));
+}
 
 -- ---- covering: halving a sound part loses no station
 pub record Halving (S : Shape) : Type 1 where

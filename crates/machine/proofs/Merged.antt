@@ -44,7 +44,8 @@ module _ (M : Merging) where
           record {
             clear = (subst (λ (b : Bool). T (not b)) (sym q) tt, w .clear);
             same = subst (λ (b : Bool). grown M (take1 M b g r) rs ≡ g) (sym q) (w .same);
-            all = subst (λ (b : Bool). keep1 M b r (remaining M (take1 M b g r) rs) ≡ r ∷ rs) (sym q) (ap {B = List (M .Region)} (λ (l : List (M .Region)). r ∷ l) (w .all)) }
+            all = subst (λ (b : Bool). keep1 M b r (remaining M (take1 M b g r) rs) ≡ r ∷ rs) (sym q) (ap {B = List (M .Region)} (λ (l : List (M .Region)). r ∷ l) (w .all));
+          }
 
   pub all-remaining : (P : M .Region → Type 0) (g : M .Region) (l : List (M .Region)) → All P l → All P (remaining M g l)
   all-remaining P g [] h = tt
@@ -71,14 +72,15 @@ module _ (M : Merging) where
   grow-clear (suc k) false g l c f =
       grow-clear k (eqb (length (remaining M g l)) (length l)) (grown M g l) (remaining M g l)
       (λ (h : T (eqb (length (remaining M g l)) (length l))).
-        let w = still g l (eqb→eq (length (remaining M g l)) (length l) h) in
-        subst (λ (x : M .Region). All (Off M x) (remaining M g l)) (sym (w .same)) (subst (λ (x : List (M .Region)). All (Off M g) x) (sym (w .all)) (w .clear)))
+      let w = still g l (eqb→eq (length (remaining M g l)) (length l) h) in
+      subst (λ (x : M .Region). All (Off M x) (remaining M g l)) (sym (w .same)) (subst (λ (x : List (M .Region)). All (Off M g) x) (sym (w .all)) (w .clear)))
       (λ (h : T (not (eqb (length (remaining M g l)) (length l)))).
-        let z = f tt in let s = shrinks g l in let n = apart-of (length (remaining M g l)) (length l) h in omega arith)
+      let z = f tt in let s = shrinks g l in let n = apart-of (length (remaining M g l)) (length l) h in omega arith)
     where
       no-of : (b : Bool) → T (not b) → T b → ⊥
       no-of true n y = n
       no-of false n y = y
+
       apart-of : (x y : ℕ) → T (not (eqb x y)) → (x ≡ y → ⊥)
       apart-of x y n e = no-of (eqb x y) n (eq→eqb e)
 
@@ -157,7 +159,7 @@ module _ (M : Merging) (X : Type 0) (K : Keeping M X) where
     where
       go : (b : Bool)
           → ((b : Bool) → K .Valid (take1 M b g r) → K .Has (take1 M b g r) x ⊎ Any (λ (r : M .Region). K .Has r x) rs
-             → K .Has (grown M (take1 M b g r) rs) x ⊎ Any (λ (r : M .Region). K .Has r x) (remaining M (take1 M b g r) rs))
+          → K .Has (grown M (take1 M b g r) rs) x ⊎ Any (λ (r : M .Region). K .Has r x) (remaining M (take1 M b g r) rs))
           → K .Has g x ⊎ Any (λ (r : M .Region). K .Has r x) (r ∷ rs)
           → K .Has (grown M (take1 M b g r) rs) x ⊎ Any (λ (r : M .Region). K .Has r x) (keep1 M b r (remaining M (take1 M b g r) rs))
       go true ih (inl y) = ih true (K .valid-join g r h (k .0)) (inl (K .has-left g r x h (k .0) y))

@@ -126,7 +126,8 @@ halving-start w a s fits =
       lower-length = part-length (a + 4 * w) (4 * w) s (omega arith);
       layout = laid-self a (4 * w) s;
       up = rw z refl;
-      low = rw z refl }
+      low = rw z refl;
+    }
 
 -- one round: put4 was lent the second slot and gave s1, mean_round the first slot of s1 and gave s2
 pub halving-turn : (w a : ℕ) (s₀ s l' u' : List Float) (r : ℕ) → a + 4 * w + 4 * w ≤ length s₀ → r < w → (h : Halving w a s₀ s r)
@@ -147,9 +148,9 @@ halving-turn w a s₀ s l' u' r fits lt h el eu =
     let low-is : l' ≡ patch l (r * 4) (getD u 0 nan ∷ getD u 1 nan ∷ getD u 2 nan ∷ getD u 3 nan ∷ []) = rw (low-was, at0, at1, at2, at3) at el in
     let ll' : length l' ≡ n = ap length low-is ∙ patch-length l (r * 4) (getD u 0 nan ∷ getD u 1 nan ∷ getD u 2 nan ∷ getD u 3 nan ∷ []) (omega arith) ∙ ll in
     let put : take (a + n) s ++ (l' ++ drop (a + n + n - (a + n)) (drop (a + n) s)) ≡ laid a n s₀ u l' =
-        ap (λ z. take (a + n) z ++ (l' ++ drop (a + n + n - (a + n)) (drop (a + n) z))) (h .layout) ∙ lower-put a n s₀ u l fits lu ll l' in
+    ap (λ z. take (a + n) z ++ (l' ++ drop (a + n + n - (a + n)) (drop (a + n) z))) (h .layout) ∙ lower-put a n s₀ u l fits lu ll l' in
     let up-is : u' ≡ paired middle 4 ((w - 1 - r) * 4) u =
-        eu ∙ ap (λ z. paired middle 4 ((w - 1 - r) * 4) (take (a + n - a) (drop a z))) put ∙ ap (paired middle 4 ((w - 1 - r) * 4)) (upper-part a n s₀ u l' fits lu ll') in
+    eu ∙ ap (λ z. paired middle 4 ((w - 1 - r) * 4) (take (a + n - a) (drop a z))) put ∙ ap (paired middle 4 ((w - 1 - r) * 4)) (upper-part a n s₀ u l' fits lu ll') in
     let lu' : length u' ≡ n = ap length up-is ∙ length-paired middle 4 ((w - 1 - r) * 4) u ∙ lu in
     record {
       upper = u';
@@ -158,7 +159,8 @@ halving-turn w a s₀ s l' u' r fits lt h el eu =
       lower-length = ll';
       layout = ap (λ z. take a z ++ (u' ++ drop (a + n - a) (drop a z))) put ∙ upper-put a n s₀ u l' fits lu ll' u';
       up = remains-turn middle w r u u' lt up-is ∙ h .up;
-      low = firsts-turn middle w r l l' u u' lt (omega arith) (omega arith) low-is up-is ∙ h .low }
+      low = firsts-turn middle w r l l' u u' lt (omega arith) (omega arith) low-is up-is ∙ h .low;
+    }
 
 pub halving-done : (w k : ℕ) (s₀ s : List Float) (r : ℕ) → k * (4 * w) + 4 * w + 4 * w ≤ length s₀ → r ≤ w → w ≤ r → Halving w (k * (4 * w)) s₀ s r → s ≡ splitSlot w k s₀
 unfolding splitSlot
@@ -176,10 +178,10 @@ pub copied-turn : (a n x : ℕ) (s₀ s : List Float) → a + n + n ≤ length s
 copied-turn a n x s₀ s fits lt e =
     let start : length (take (a + n) s₀) ≡ a + n = length-take-le (a + n) s₀ (omega arith) in
     let is : getD s (a + x) nan ≡ getD (part a n s₀) x nan =
-        ap (λ z. getD z (a + x) nan) (e ∙ append-assoc (take (a + n) s₀) (take x (part a n s₀)) (drop (a + n + x) s₀))
-        ∙ List·getD-append (take (a + n) s₀) _ nan (a + x) (omega arith)
-        ∙ getD-take (a + n) s₀ (a + x) nan (omega arith)
-        ∙ sym (getD-take n (drop a s₀) x nan lt ∙ getD-drop a s₀ x nan) in
+    ap (λ z. getD z (a + x) nan) (e ∙ append-assoc (take (a + n) s₀) (take x (part a n s₀)) (drop (a + n + x) s₀))
+    ∙ List·getD-append (take (a + n) s₀) _ nan (a + x) (omega arith)
+    ∙ getD-take (a + n) s₀ (a + x) nan (omega arith)
+    ∙ sym (getD-take n (drop a s₀) x nan lt ∙ getD-drop a s₀ x nan) in
     rw (is, e, add-one) (paste-suc s₀ (a + n) (part a n s₀) x nan (omega arith) (omega (arith, part-length a n s₀ (omega arith))))
 
 pub copied-done : (w k x : ℕ) (s₀ s : List Float) → k * (4 * w) + 4 * w + 4 * w ≤ length s₀ → x ≡ 4 * w → s ≡ copied (k * (4 * w)) (4 * w) x s₀ → s ≡ copySlot w k s₀

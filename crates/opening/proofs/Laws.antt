@@ -40,9 +40,12 @@ pub push-room : (x : State) (n S w1 w2 : ℕ) (gap : Float) (s : Sizes) → x �
     → (n * (4 * w1) ≤ s .nets1) × (n * (4 * w2) ≤ s .nets2) × (n * 4 ≤ s .ranges) × (n ≤ s .depths)
 push-room x n S w1 w2 gap s e f =
     let R = room-all (firstState n S w1 w2 gap) s (subst (λ (y : State). enough (needed y) s ≡ true) e f) in
-    let more : n ≤ n + 64 = omega arith in
-    (le-trans (mul-le-mul-right (4 * w1) more) (R .nets1), le-trans (mul-le-mul-right (4 * w2) more) (R .nets2),
-     le-trans (mul-le-mul-right 4 more) (R .ranges), (let z = R .depths in omega arith))
+    let more : n ≤ n + 64 = omega arith in (
+      le-trans (mul-le-mul-right (4 * w1) more) (R .nets1),
+      le-trans (mul-le-mul-right (4 * w2) more) (R .nets2),
+      le-trans (mul-le-mul-right 4 more) (R .ranges),
+      (let z = R .depths in omega arith),
+    )
 
 module _ (S : ℕ) (gap : Float) (p q : Pieces) (n1 n2 : ℕ) (u : Memory) (x : State) (n : ℕ) (en : n ≡ length (pairsFrom gap p q n2 n1 0)) (ex : x ≡ firstState n S (p .w) (q .w) gap) where
   state-is : x ≡ firstState (length (pairsFrom gap p q n2 n1 0)) S (p .w) (q .w) gap
@@ -65,8 +68,20 @@ module _ (q : Question) (p1 p2 : List Float) (u : Memory) where
   fresh-state =
       let e = sym (pairs-are q p1 p2) in
       let w = e ∙ sym (length-reverse (pushedPairs (searchFor q))) in
-      λ i. record { pairs = e i; quota = q .splits; waiting = w i; visits = 0; splits = 0; unspent = q .splits * e i; settled = 0; given = 0;
-        width1 = q .line1 .degree + 1; width2 = q .line2 .degree + 1; gap = q .gap; stopped = false }
+      λ i. record {
+        pairs = e i;
+        quota = q .splits;
+        waiting = w i;
+        visits = 0;
+        splits = 0;
+        unspent = q .splits * e i;
+        settled = 0;
+        given = 0;
+        width1 = q .line1 .degree + 1;
+        width2 = q .line2 .degree + 1;
+        gap = q .gap;
+        stopped = false;
+      }
 
   pub push-is : pushPairs (q .splits) (q .gap) (one q p1 p2) (other q p1 p2) (pieceCount (q .lo1) (q .hi1) (q .line1 .knots)) (pieceCount (q .lo2) (q .hi2) (q .line2 .knots)) u ≡ pushDef (searchFor q) u
   push-is =
@@ -76,11 +91,11 @@ module _ (q : Question) (p1 p2 : List Float) (u : Memory) where
   -- the pieces written, then the pairs pushed
   pub pieces-opened : (r : Opened) (a b : List Float) (m : Memory) → a ≡ piecesIn (q .line1) (q .lo1) (q .hi1) p1 → b ≡ piecesIn (q .line2) (q .lo2) (q .hi2) p2
       → pushing r m ≡ pushPairs (q .splits) (q .gap) (pieces (q .line1 .degree + 1) a (breaksOf (q .lo1) (q .hi1) (q .line1 .knots))) (pieces (q .line2 .degree + 1) b (breaksOf (q .lo2) (q .hi2) (q .line2 .knots)))
-        (pieceCount (q .lo1) (q .hi1) (q .line1 .knots)) (pieceCount (q .lo2) (q .hi2) (q .line2 .knots)) u
+      (pieceCount (q .lo1) (q .hi1) (q .line1 .knots)) (pieceCount (q .lo2) (q .hi2) (q .line2 .knots)) u
       → opening r a b m ≡ openPieces q p1 p2 u
   pieces-opened r a b m ea eb e =
       let f = e ∙ (λ i. pushPairs (q .splits) (q .gap) (pieces (q .line1 .degree + 1) (ea i) (breaksOf (q .lo1) (q .hi1) (q .line1 .knots))) (pieces (q .line2 .degree + 1) (eb i) (breaksOf (q .lo2) (q .hi2) (q .line2 .knots)))
-        (pieceCount (q .lo1) (q .hi1) (q .line1 .knots)) (pieceCount (q .lo2) (q .hi2) (q .line2 .knots)) u) ∙ push-is in
+      (pieceCount (q .lo1) (q .hi1) (q .line1 .knots)) (pieceCount (q .lo2) (q .hi2) (q .line2 .knots)) u) ∙ push-is in
       λ i. opening (f i .answer) (ea i) (eb i) (f i .memory)
 
   -- ---- the tests, one a return

@@ -63,9 +63,12 @@ line-pieces l lo hi p =
     let n : length (lo ∷ ts) - 1 ≡ length ts = omega arith in
     chained (l .degree) (l .knots) flat poles lo ts
     ∙ indexed-same (pieceOf (l .degree) (l .knots) flat poles (lo ∷ ts)) (slotPiece (linePieces l lo hi p)) (length ts) 0
-      (λ j h. λ i. record { lo = getD (lo ∷ ts) j nan; hi = getD (lo ∷ ts) (suc j) nan;
-        net = sym (piece-at l lo hi (drop (0 + length (piecesOf (l .degree) (l .knots) (l .mults) (l .coords) (l .weights) lo hi)) p) j (let g : j + 1 < length (lo ∷ ts) = omega arith in g)
-          ∙ (let e = add-one j in ap (λ (k : ℕ). netOf (l .degree) (l .knots) flat poles (getD (lo ∷ ts) j nan) (getD (lo ∷ ts) k nan)) e)) i })
+    (λ j h. λ i. record {
+      lo = getD (lo ∷ ts) j nan;
+      hi = getD (lo ∷ ts) (suc j) nan;
+      net = sym (piece-at l lo hi (drop (0 + length (piecesOf (l .degree) (l .knots) (l .mults) (l .coords) (l .weights) lo hi)) p) j (let g : j + 1 < length (lo ∷ ts) = omega arith in g)
+          ∙ (let e = add-one j in ap (λ (k : ℕ). netOf (l .degree) (l .knots) flat poles (getD (lo ∷ ts) j nan) (getD (lo ∷ ts) k nan)) e)) i;
+    })
     ∙ ap (λ (k : ℕ). indexed (slotPiece (linePieces l lo hi p)) k 0) (sym n)
 
 -- ---- the pushed pairs

@@ -55,8 +55,20 @@ start q = fresh (shape q) (pieces1 q) (pieces2 q) (q .quota * pairsOf q)
 
 -- ---- the numbers of a search, as a state and as counts
 abbrev pub stateOf : (q : Asked) → Search (shape q) → State
-stateOf q m = record { pairs = pairsOf q; quota = q .quota; waiting = length (m .stack); visits = m .visits; splits = m .splits; unspent = m .unspent; settled = length (m .settled); given = length (m .given);
-    width1 = q .width1; width2 = q .width2; gap = q .gap; stopped = m .stopped }
+stateOf q m = record {
+  pairs = pairsOf q;
+  quota = q .quota;
+  waiting = length (m .stack);
+  visits = m .visits;
+  splits = m .splits;
+  unspent = m .unspent;
+  settled = length (m .settled);
+  given = length (m .given);
+  width1 = q .width1;
+  width2 = q .width2;
+  gap = q .gap;
+  stopped = m .stopped;
+}
 
 -- left: the nodes waiting at the end
 abbrev pub tally : (q : Asked) → Search (shape q) → Counts
@@ -85,8 +97,9 @@ depthOf q n = depth (shape q) n ∷ []
 
 abbrev pub openMemory : Asked → Memory → Memory
 openMemory q u = record {
-    nets1 = patch (u .nets1) 0 (concat (map (netOf1 q) (pushedPairs q)));
-    nets2 = patch (u .nets2) 0 (concat (map (netOf2 q) (pushedPairs q)));
-    ranges = patch (u .ranges) 0 (concat (map (rangesOf q) (pushedPairs q)));
-    depths = patch (u .depths) 0 (concat (map (depthOf q) (pushedPairs q)));
-    raw = u .raw }
+  nets1 = patch (u .nets1) 0 (concat (map (netOf1 q) (pushedPairs q)));
+  nets2 = patch (u .nets2) 0 (concat (map (netOf2 q) (pushedPairs q)));
+  ranges = patch (u .ranges) 0 (concat (map (rangesOf q) (pushedPairs q)));
+  depths = patch (u .depths) 0 (concat (map (depthOf q) (pushedPairs q)));
+  raw = u .raw;
+}

@@ -41,10 +41,18 @@ openedLine NoRoom = 0
 -- the search that a question asks for
 abbrev pub searchFor : Question → Asked
 searchFor q = record {
-    geometry = geometry;
-    lo1 = q .lo1; hi1 = q .hi1; cuts1 = cutsOf (q .line1) (q .lo1) (q .hi1);
-    lo2 = q .lo2; hi2 = q .hi2; cuts2 = cutsOf (q .line2) (q .lo2) (q .hi2);
-    gap = q .gap; quota = q .splits; width1 = q .line1 .degree + 1; width2 = q .line2 .degree + 1 }
+  geometry = geometry;
+  lo1 = q .lo1;
+  hi1 = q .hi1;
+  cuts1 = cutsOf (q .line1) (q .lo1) (q .hi1);
+  lo2 = q .lo2;
+  hi2 = q .hi2;
+  cuts2 = cutsOf (q .line2) (q .lo2) (q .hi2);
+  gap = q .gap;
+  quota = q .splits;
+  width1 = q .line1 .degree + 1;
+  width2 = q .line2 .degree + 1;
+}
 
 -- the lines and the question as the code takes them
 abbrev pub lineOf : ℕ → List Float → List ℕ → List Float → List Float → Line

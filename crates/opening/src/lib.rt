@@ -109,12 +109,45 @@ fn push(
 {
     let mut boxes1 = pairs::box_room();
     let mut boxes2 = pairs::box_room();
-    let n = pairs::count(q.gap, w1, pieces1, n1, w2, pieces2, n2, &mut boxes1, &mut boxes2);
+    let n = pairs::count(
+        q.gap,
+        w1,
+        pieces1,
+        n1,
+        w2,
+        pieces2,
+        n2,
+        &mut boxes1,
+        &mut boxes2,
+    );
     let st = first_state(q, n, w1, w2);
-    if !states::has_room(st, nets1.len(), nets2.len(), ranges.len(), depths.len(), raw.len()) {
+    if !states::has_room(
+        st,
+        nets1.len(),
+        nets2.len(),
+        ranges.len(),
+        depths.len(),
+        raw.len(),
+    ) {
         return Opened::NoRoom;
     }
-    pairs::push_pairs(q.gap, n1, w1, pieces1, breaks1, &boxes1, n2, w2, pieces2, breaks2, &boxes2, nets1, nets2, ranges, depths);
+    pairs::push_pairs(
+        q.gap,
+        n1,
+        w1,
+        pieces1,
+        breaks1,
+        &boxes1,
+        n2,
+        w2,
+        pieces2,
+        breaks2,
+        &boxes2,
+        nets1,
+        nets2,
+        ranges,
+        depths,
+    );
     Opened::Open(st)
 }
 
@@ -143,7 +176,22 @@ fn open_pairs(
     let m2 = knots::breaks(knots2, q.lo2, q.hi2, &mut b2);
     let w1 = knots::count(degree1) + 1;
     let w2 = knots::count(degree2) + 1;
-    push(q, m1 - 1, w1, pieces1, &b1[..m1], m2 - 1, w2, pieces2, &b2[..m2], nets1, nets2, ranges, depths, raw)
+    push(
+        q,
+        m1 - 1,
+        w1,
+        pieces1,
+        &b1[..m1],
+        m2 - 1,
+        w2,
+        pieces2,
+        &b2[..m2],
+        nets1,
+        nets2,
+        ranges,
+        depths,
+        raw,
+    )
 }
 
 // The pieces of both lines written, and their pairs pushed.
@@ -172,13 +220,52 @@ fn open_pieces(
     requires { ⌜ (q .splits ≤ 256) × (pieceCount (q .lo1) (q .hi1) (now knots1) * (4 * (degree1 + 1)) ≤ length (now pieces1)) × (pieceCount (q .lo2) (q .hi2) (now knots2) * (4 * (degree2 + 1)) ≤ length (now pieces2)) ⌝ }
     ensures { λ r. ⌜ _≡_ {A = Opening} (opening r (now (pieces1 .exit)) (now (pieces2 .exit)) (memory (now (nets1 .exit)) (now (nets2 .exit)) (now (ranges .exit)) (now (depths .exit)) (now (raw .entry)))) (openPieces (questionOf q (lineOf degree1 (now (knots1 .entry)) (now (mults1 .entry)) (now (coords1 .entry)) (now (weights1 .entry))) (lineOf degree2 (now (knots2 .entry)) (now (mults2 .entry)) (now (coords2 .entry)) (now (weights2 .entry)))) (now (pieces1 .entry)) (now (pieces2 .entry)) (memory (now (nets1 .entry)) (now (nets2 .entry)) (now (ranges .entry)) (now (depths .entry)) (now (raw .entry)))) ⌝ }
 {
-    curves::curve_pieces(degree1, knots1, mults1, coords1, weights1, q.lo1, q.hi1, pieces1);
-    curves::curve_pieces(degree2, knots2, mults2, coords2, weights2, q.lo2, q.hi2, pieces2);
-    open_pairs(q, degree1, knots1, pieces1, degree2, knots2, pieces2, nets1, nets2, ranges, depths, raw)
+    curves::curve_pieces(
+        degree1,
+        knots1,
+        mults1,
+        coords1,
+        weights1,
+        q.lo1,
+        q.hi1,
+        pieces1,
+    );
+    curves::curve_pieces(
+        degree2,
+        knots2,
+        mults2,
+        coords2,
+        weights2,
+        q.lo2,
+        q.hi2,
+        pieces2,
+    );
+    open_pairs(
+        q,
+        degree1,
+        knots1,
+        pieces1,
+        degree2,
+        knots2,
+        pieces2,
+        nets1,
+        nets2,
+        ranges,
+        depths,
+        raw,
+    )
 }
 
 // Whether the piece slices are long enough: 4 × width a piece.
-fn pieces_fit(q: Question, degree1: u32, knots1: &[f64], length1: usize, degree2: u32, knots2: &[f64], length2: usize) -> bool
+fn pieces_fit(
+    q: Question,
+    degree1: u32,
+    knots1: &[f64],
+    length1: usize,
+    degree2: u32,
+    knots2: &[f64],
+    length2: usize,
+) -> bool
     requires { ⌜ (length (now knots1) ≤ 128) × (length (now knots2) ≤ 128) × (degree1 ≤ 25) × (degree2 ≤ 25) ⌝ }
     ensures { λ r. ⌜ r ≡ (leb (pieceCount (q .lo1) (q .hi1) (now (knots1 .entry)) * (4 * (degree1 + 1))) length1 && leb (pieceCount (q .lo2) (q .hi2) (now (knots2 .entry)) * (4 * (degree2 + 1))) length2) ⌝ }
 {
@@ -221,12 +308,56 @@ pub fn open(
     if !is_admitted(a2) {
         return Opened::BadLine(2, a2);
     }
-    let a = questions::ask(degree1, knots1, mults1, coords1, weights1, q.lo1, q.hi1, degree2, knots2, mults2, coords2, weights2, q.lo2, q.hi2, q.gap, q.splits);
+    let a = questions::ask(
+        degree1,
+        knots1,
+        mults1,
+        coords1,
+        weights1,
+        q.lo1,
+        q.hi1,
+        degree2,
+        knots2,
+        mults2,
+        coords2,
+        weights2,
+        q.lo2,
+        q.hi2,
+        q.gap,
+        q.splits,
+    );
     if !is_fine(a) {
         return Opened::BadQuestion(a);
     }
-    if !pieces_fit(q, degree1, knots1, pieces1.len(), degree2, knots2, pieces2.len()) {
+    if !pieces_fit(
+        q,
+        degree1,
+        knots1,
+        pieces1.len(),
+        degree2,
+        knots2,
+        pieces2.len(),
+    ) {
         return Opened::NoRoom;
     }
-    open_pieces(q, degree1, knots1, mults1, coords1, weights1, degree2, knots2, mults2, coords2, weights2, pieces1, pieces2, nets1, nets2, ranges, depths, raw)
+    open_pieces(
+        q,
+        degree1,
+        knots1,
+        mults1,
+        coords1,
+        weights1,
+        degree2,
+        knots2,
+        mults2,
+        coords2,
+        weights2,
+        pieces1,
+        pieces2,
+        nets1,
+        nets2,
+        ranges,
+        depths,
+        raw,
+    )
 }

@@ -77,9 +77,10 @@ greatest-below z x y h k = go (le y x) (eq y y)
     go false false = h
 
 join-inside : (g r x : Region) → Inside g x → Inside r x → Inside (unionOf g r) x
-join-inside g r x h k =
-    ((least-above (x .a0) (g .a0) (r .a0) (h .0 .0) (k .0 .0), greatest-below (x .a1) (g .a1) (r .a1) (h .0 .1) (k .0 .1)),
-     (least-above (x .b0) (g .b0) (r .b0) (h .1 .0) (k .1 .0), greatest-below (x .b1) (g .b1) (r .b1) (h .1 .1) (k .1 .1)))
+join-inside g r x h k = (
+  (least-above (x .a0) (g .a0) (r .a0) (h .0 .0) (k .0 .0), greatest-below (x .a1) (g .a1) (r .a1) (h .0 .1) (k .0 .1)),
+  (least-above (x .b0) (g .b0) (r .b0) (h .1 .0) (k .1 .0), greatest-below (x .b1) (g .b1) (r .b1) (h .1 .1) (k .1 .1)),
+)
 
 -- merging that hold two that touch, touch
 meets : (x0 x1 y0 y1 g0 g1 r0 r1 : Float) → T (le x0 g0) → T (le g1 x1) → T (le y0 r0) → T (le r1 y1) → T (le g0 r1 && le r0 g1) → T (le x0 y1 && le y0 x1)

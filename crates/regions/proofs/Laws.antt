@@ -50,15 +50,34 @@ ten l i r h =
 -- a region reads ten floats and no more
 pub region-start : (n : ℕ) (l : List Float) → 10 ≤ n → regionAt (take n l) ≡ regionAt l
 region-start n l h =
-    cc (getD-take n l 0 nan (omega arith), getD-take n l 1 nan (omega arith), getD-take n l 2 nan (omega arith), getD-take n l 3 nan (omega arith), getD-take n l 4 nan (omega arith),
-        getD-take n l 5 nan (omega arith), getD-take n l 6 nan (omega arith), getD-take n l 7 nan (omega arith), getD-take n l 8 nan (omega arith), getD-take n l 9 nan (omega arith))
+    cc (
+      getD-take n l 0 nan (omega arith),
+      getD-take n l 1 nan (omega arith),
+      getD-take n l 2 nan (omega arith),
+      getD-take n l 3 nan (omega arith),
+      getD-take n l 4 nan (omega arith),
+      getD-take n l 5 nan (omega arith),
+      getD-take n l 6 nan (omega arith),
+      getD-take n l 7 nan (omega arith),
+      getD-take n l 8 nan (omega arith),
+      getD-take n l 9 nan (omega arith),
+    )
 
 -- ten reads in a row are the region in its place
 pub ten-read : (l : List Float) (i : ℕ)
     → _≡_ {A = Region} (record {
-        a0 = getD l i nan; a1 = getD l (i + 1) nan; b0 = getD l (i + 2) nan; b1 = getD l (i + 3) nan;
-        x0 = getD l (i + 4) nan; y0 = getD l (i + 5) nan; z0 = getD l (i + 6) nan; x1 = getD l (i + 7) nan; y1 = getD l (i + 8) nan; z1 = getD l (i + 9) nan })
-      (regionAt (take 10 (drop i l)))
+      a0 = getD l i nan;
+      a1 = getD l (i + 1) nan;
+      b0 = getD l (i + 2) nan;
+      b1 = getD l (i + 3) nan;
+      x0 = getD l (i + 4) nan;
+      y0 = getD l (i + 5) nan;
+      z0 = getD l (i + 6) nan;
+      x1 = getD l (i + 7) nan;
+      y1 = getD l (i + 8) nan;
+      z1 = getD l (i + 9) nan;
+    })
+    (regionAt (take 10 (drop i l)))
 ten-read l i =
     let z : getD (drop i l) 0 nan ≡ getD l i nan = getD-drop i l 0 nan ∙ rw add-zero refl in
     let e = region-start 10 (drop i l) (omega arith) in
@@ -110,7 +129,7 @@ regions-join : (n : ℕ) (l m : List Float) → 10 ≤ length l → regionsIn (s
 regions-join n l m h =
     let k = length-take-le 10 l h in
     let a : regionAt (take 10 l ++ m) ≡ regionAt l =
-        sym (region-start 10 (take 10 l ++ m) (omega arith)) ∙ ap regionAt (take-at (take 10 l) m 10 k) ∙ region-start 10 l (omega arith) in
+    sym (region-start 10 (take 10 l ++ m) (omega arith)) ∙ ap regionAt (take-at (take 10 l) m 10 k) ∙ region-start 10 l (omega arith) in
     rw (a, drop-at (take 10 l) m 10 k) refl
 
 pub regions-set : (i n : ℕ) (l : List Float) (r : Region) → i < n → n * 10 ≤ length l → regionsIn n (patch l (i * 10) (flat r)) ≡ set (regionsIn n l) i r
@@ -139,8 +158,8 @@ rest-set i n l r h f =
     let e : n * 10 ≡ i * 10 + 10 + m = omega arith in
     let t = length-take-le (i * 10) l (omega arith) in
     let a : drop (i * 10 + 10) (patch l (i * 10) (flat r)) ≡ drop (i * 10 + 10) l =
-        ap (drop (i * 10 + 10)) (sym (append-assoc (take (i * 10) l) (flat r) (drop (i * 10 + 10) l)))
-        ∙ drop-at (take (i * 10) l ++ flat r) (drop (i * 10 + 10) l) (i * 10 + 10) (length-append (take (i * 10) l) (flat r) ∙ ap (λ (z : ℕ). z + 10) t) in
+    ap (drop (i * 10 + 10)) (sym (append-assoc (take (i * 10) l) (flat r) (drop (i * 10 + 10) l)))
+    ∙ drop-at (take (i * 10) l ++ flat r) (drop (i * 10 + 10) l) (i * 10 + 10) (length-append (take (i * 10) l) (flat r) ∙ ap (λ (z : ℕ). z + 10) t) in
     ap (λ (z : ℕ). drop z (patch l (i * 10) (flat r))) e ∙ sym (drop-drop m (i * 10 + 10) (patch l (i * 10) (flat r))) ∙ ap (drop m) a ∙ drop-drop m (i * 10 + 10) l ∙ ap (λ (z : ℕ). drop z l) (sym e)
 
 -- a region stored behind the first k
@@ -183,7 +202,7 @@ module _ {A : Type 0} (v : A) where
       let t : take (x + 1) (set l x v) ≡ take x l ++ (v ∷ []) = rw add-one (take-suc-set l x v (omega arith)) in
       let u : x + 1 + length (replicate (to - (x + 1)) v) ≡ x + suc (length (replicate (to - (x + 1)) v)) = omega arith in
       let d : drop (x + 1 + length (replicate (to - (x + 1)) v)) (set l x v) ≡ drop (x + suc (length (replicate (to - (x + 1)) v))) l =
-          drop-set-lt (x + 1 + length (replicate (to - (x + 1)) v)) l x v (omega arith) ∙ ap (λ (z : ℕ). drop z l) u in
+      drop-set-lt (x + 1 + length (replicate (to - (x + 1)) v)) l x v (omega arith) ∙ ap (λ (z : ℕ). drop z l) u in
       rw (t, d, k, append-assoc) refl
 
   pub fill-end : (l r : List A) (x to : ℕ) → to ≤ x → patch l x (replicate (to - x) v) ≡ r → l ≡ r

@@ -50,7 +50,7 @@ module _ (n : ℕ) (r : Region) (l₀ l : List Float) (s : Swept) (i : ℕ) (p :
       → l' ≡ cond (touchesOf (s .grown) x) l (patch l (s .kept * 10) (flat x)) → Pass n r l₀ l' w (i + 1)
   pass-turn l' w x room lt ex eg ek el =
       let head : drop i (regionsIn n l) ≡ x ∷ drop (suc i) (regionsIn n l) =
-          drop-cons (regionsIn n l) i x (rw regions-length lt) ∙ ap (λ (z : Region). z ∷ drop (suc i) (regionsIn n l)) (region-get i n l x lt ∙ sym ex) in
+      drop-cons (regionsIn n l) i x (rw regions-length lt) ∙ ap (λ (z : Region). z ∷ drop (suc i) (regionsIn n l)) (region-get i n l x lt ∙ sym ex) in
       go (touchesOf (s .grown) x) eg ek el (sym (ap (grown merging (s .grown)) head) ∙ p .grows)
       (sym (ap (λ (z : List Region). take (s .kept) (regionsIn n l) ++ remaining merging (s .grown) z) head) ∙ p .stays)
     where
@@ -59,12 +59,13 @@ module _ (n : ℕ) (r : Region) (l₀ l : List Float) (s : Swept) (i : ℕ) (p :
           → take (s .kept) (regionsIn n l) ++ keep1 merging b x (remaining merging (take1 merging b (s .grown) x) (drop (suc i) (regionsIn n l))) ≡ remaining merging r (regionsIn n l₀)
           → Pass n r l₀ l' w (i + 1)
       go true eg ek el a b = record {
-          same = ap length el ∙ p .same;
-          at = omega arith;
-          behind = let z = p .behind in omega arith;
-          grows = rw (eg, el, add-one) a;
-          stays = rw (eg, ek, el, add-one) b;
-          rest = rw el (p .rest) }
+        same = ap length el ∙ p .same;
+        at = omega arith;
+        behind = let z = p .behind in omega arith;
+        grows = rw (eg, el, add-one) a;
+        stays = rw (eg, ek, el, add-one) b;
+        rest = rw el (p .rest);
+      }
       go false eg ek el a b =
           let k = p .behind in
           let q = p .same in
@@ -76,7 +77,8 @@ module _ (n : ℕ) (r : Region) (l₀ l : List Float) (s : Swept) (i : ℕ) (p :
             behind = omega arith;
             grows = rw (eg, el, v, add-one, drop-set-lt (suc i) (regionsIn n l) (s .kept) x (omega arith)) a;
             stays = rw (eg, ek, el, v, add-one (s .kept), add-one i, drop-set-lt (suc i) (regionsIn n l) (s .kept) x (omega arith), take-suc-set (regionsIn n l) (s .kept) x (omega arith), append-assoc) b;
-            rest = rw el (rest-set (s .kept) n l x (omega arith) (omega arith)) ∙ p .rest }
+            rest = rw el (rest-set (s .kept) n l x (omega arith) (omega arith)) ∙ p .rest;
+          }
 
   -- all were tested
   module _ (end : n ≤ i) where
@@ -132,8 +134,9 @@ module _ (l₀ : List Float) (had₀ : ℕ) (s₀ : Swept) (l : List Float) (had
             fuel = f;
             enough = omega arith;
             follows = grow-pass f (s .kept) (w .kept) (s .grown) (w .grown) (regionsIn (s .kept) l) (regionsIn (w .kept) l') (sym (regions-length (s .kept) l)) ek eg es
-              ∙ (rw (ne-eqb (s .kept) had (λ (z : s .kept ≡ had). omega arith)) at e);
-            rest = drop-more (s .kept * 10) (had₀ * 10) l' l (omega arith) er ∙ p .rest }
+                ∙ (rw (ne-eqb (s .kept) had (λ (z : s .kept ≡ had). omega arith)) at e);
+            rest = drop-more (s .kept * 10) (had₀ * 10) l' l (omega arith) er ∙ p .rest;
+          }
 
   -- the last pass took in nothing
   module _ (end : had ≤ s .kept) where
@@ -152,14 +155,18 @@ absorbed n r e l₀ s₀ l had s l' room same eg ek es er p end el =
     let q = p .same in
     let f = p .fewer in
     let w : record { region = s .grown; rest = regionsIn had l } ≡ grow merging (suc (length (regionsIn n e))) false r (regionsIn n e) =
-        settled l₀ n s₀ l had s p end
-        ∙ grow-pass n n (s₀ .kept) r (s₀ .grown) (regionsIn n e) (regionsIn (s₀ .kept) l₀) (sym (regions-length n e)) ek eg es
-        ∙ ap (λ (z : ℕ). grow merging (suc z) false r (regionsIn n e)) (sym (regions-length n e)) in
+    settled l₀ n s₀ l had s p end
+    ∙ grow-pass n n (s₀ .kept) r (s₀ .grown) (regionsIn n e) (regionsIn (s₀ .kept) l₀) (sym (regions-length n e)) ek eg es
+    ∙ ap (λ (z : ℕ). grow merging (suc z) false r (regionsIn n e)) (sym (regions-length n e)) in
     let a : regionsIn (had + 1) l' ≡ takeIn merging r (regionsIn n e) =
-        ap (regionsIn (had + 1)) el ∙ regions-snoc had l (s .grown) (omega arith) ∙ ap (λ (z : Grown merging). z .rest ++ (z .region ∷ [])) w in
-    ((sym (regions-length (had + 1) l') ∙ ap length a, omega arith),
-     (a, ap (drop ((n + 1) * 10)) el ∙ drop-more ((had + 1) * 10) ((n + 1) * 10) (patch l (had * 10) (flat (s .grown))) l (omega arith) (rest-set had (had + 1) l (s .grown) (omega arith) (omega arith))
-         ∙ drop-more (n * 10) ((n + 1) * 10) l e (omega arith) (p .rest ∙ er)))
+    ap (regionsIn (had + 1)) el ∙ regions-snoc had l (s .grown) (omega arith) ∙ ap (λ (z : Grown merging). z .rest ++ (z .region ∷ [])) w in (
+      (sym (regions-length (had + 1) l') ∙ ap length a, omega arith),
+      (
+        a,
+        ap (drop ((n + 1) * 10)) el ∙ drop-more ((had + 1) * 10) ((n + 1) * 10) (patch l (had * 10) (flat (s .grown))) l (omega arith) (rest-set had (had + 1) l (s .grown) (omega arith) (omega arith))
+            ∙ drop-more (n * 10) ((n + 1) * 10) l e (omega arith) (p .rest ∙ er),
+      ),
+    )
 
 -- ---- from the end of the raw list
 pub last-first : (i : ℕ) (l : List Float) → reverse (regionsIn (suc i) l) ≡ regionAt (block 10 i l) ∷ reverse (regionsIn i l)
@@ -167,8 +174,8 @@ last-first i l =
     let d = regionAt l in
     let n = regions-length (suc i) l in
     let e : regionsIn (suc i) l ≡ regionsIn i l ++ (regionAt (block 10 i l) ∷ []) =
-        sym (take-all (suc i) (regionsIn (suc i) l) (omega arith)) ∙ take-suc (regionsIn (suc i) l) i d (omega arith)
-        ∙ rw (regions-take i (suc i) l (omega arith), region-get i (suc i) l d (omega arith)) refl in
+    sym (take-all (suc i) (regionsIn (suc i) l) (omega arith)) ∙ take-suc (regionsIn (suc i) l) i d (omega arith)
+    ∙ rw (regions-take i (suc i) l (omega arith), region-get i (suc i) l d (omega arith)) refl in
     ap reverse e ∙ reverse-append (regionsIn i l) (regionAt (block 10 i l) ∷ [])
 
 -- what is known when the loop of `gather` has i raw regions to take and m merged ones
@@ -188,9 +195,10 @@ module _ (raw : List Float) (n : ℕ) (l₀ l : List Float) (m i : ℕ) (p : Gat
         same = same ∙ p .same;
         at = omega arith;
         follows = ap (gather merging (reverse (regionsIn (i - 1) raw))) es
-          ∙ ap (λ (z : List Region). gather merging z (regionsIn m l)) (ap (λ (z : Region). z ∷ reverse (regionsIn (i - 1) raw)) ex ∙ sym (last-first (i - 1) raw) ∙ ap (λ (z : ℕ). reverse (regionsIn z raw)) (sym k))
-          ∙ p .follows;
-        rest = drop-more ((m + 1) * 10) (n * 10) l' l (omega arith) er ∙ p .rest }
+            ∙ ap (λ (z : List Region). gather merging z (regionsIn m l)) (ap (λ (z : Region). z ∷ reverse (regionsIn (i - 1) raw)) ex ∙ sym (last-first (i - 1) raw) ∙ ap (λ (z : ℕ). reverse (regionsIn z raw)) (sym k))
+            ∙ p .follows;
+        rest = drop-more ((m + 1) * 10) (n * 10) l' l (omega arith) er ∙ p .rest;
+      }
 
   pub gather-done : i ≤ 0 → regionsIn m l ≡ gather merging (reverse (regionsIn n raw)) []
   gather-done h = let z : i ≡ 0 = omega arith in rw z at (p .follows)

@@ -52,7 +52,8 @@ module _ (k n : ℕ) (r : Region) (l₀ l : List Float) (j : ℕ) (p : Inserting
         same = ap length el ∙ patch-length l (j * 10) (flat y) (omega arith) ∙ p .same;
         at = h;
         follows = rw (v, t, d, append-assoc) (ap (λ (z : List Region). take j (regionsIn n l) ++ z) (sym (inserted y true h ey q)) ∙ p .follows);
-        rest = ap (drop (n * 10)) el ∙ rest-set j n l y (omega arith) (omega arith) ∙ p .rest }
+        rest = ap (drop (n * 10)) el ∙ rest-set j n l y (omega arith) (omega arith) ∙ p .rest;
+      }
 
   -- r does not go further: no region is behind j, or the one there does not start before r
   pub stop-end : n ≤ j + 1 → insert merging r (drop (j + 1) (regionsIn n l)) ≡ r ∷ drop (j + 1) (regionsIn n l)
@@ -69,10 +70,11 @@ module _ (k n : ℕ) (r : Region) (l₀ l : List Float) (j : ℕ) (p : Inserting
       let s = p .same in
       let q = p .at in
       let n' = regions-length n l in
-      let c : r ∷ drop (suc j) (regionsIn n l) ≡ insert merging r (drop (j + 1) (regionsIn n l)) = rw (← add-one j) (sym e) in
-      (ap (regionsIn n) el ∙ regions-set j n l r (omega arith) (omega arith) ∙ set-split (regionsIn n l) j r (omega arith) ∙ ap (λ (z : List Region). take j (regionsIn n l) ++ z) c ∙ p .follows
-       ∙ ap (λ (z : Region). take k (regionsIn n l₀) ++ insert merging z (drop (k + 1) (regionsIn n l₀))) ex,
-       ap (drop (n * 10)) el ∙ rest-set j n l r (omega arith) (omega arith) ∙ p .rest)
+      let c : r ∷ drop (suc j) (regionsIn n l) ≡ insert merging r (drop (j + 1) (regionsIn n l)) = rw (← add-one j) (sym e) in (
+        ap (regionsIn n) el ∙ regions-set j n l r (omega arith) (omega arith) ∙ set-split (regionsIn n l) j r (omega arith) ∙ ap (λ (z : List Region). take j (regionsIn n l) ++ z) c ∙ p .follows
+            ∙ ap (λ (z : Region). take k (regionsIn n l₀) ++ insert merging z (drop (k + 1) (regionsIn n l₀))) ex,
+        ap (drop (n * 10)) el ∙ rest-set j n l r (omega arith) (omega arith) ∙ p .rest,
+      )
 
 -- ---- sorting from the last region to the first
 -- what is known when the loop of `sort` has ordered the regions from k on
@@ -101,20 +103,21 @@ module _ (n : ℕ) (l₀ l : List Float) (k : ℕ) (p : Sorting n l₀ l k) wher
       let ej : suc (k - 1) ≡ k = omega arith in
       let lj = length-take-le (k - 1) (regionsIn n l) (omega arith) in
       let x : regionAt (block 10 (k - 1) l) ≡ getD (regionsIn n l₀) (k - 1) d =
-          sym (region-get (k - 1) n l d (omega arith)) ∙ sym (getD-take k (regionsIn n l) (k - 1) d (omega arith)) ∙ ap (λ (z : List Region). getD z (k - 1) d) (p .before) ∙ getD-take k (regionsIn n l₀) (k - 1) d (omega arith) in
+      sym (region-get (k - 1) n l d (omega arith)) ∙ sym (getD-take k (regionsIn n l) (k - 1) d (omega arith)) ∙ ap (λ (z : List Region). getD z (k - 1) d) (p .before) ∙ getD-take k (regionsIn n l₀) (k - 1) d (omega arith) in
       let t : drop (k - 1) (regionsIn n l₀) ≡ getD (regionsIn n l₀) (k - 1) d ∷ drop k (regionsIn n l₀) =
-          drop-cons (regionsIn n l₀) (k - 1) d (omega arith) ∙ ap (λ (z : ℕ). getD (regionsIn n l₀) (k - 1) d ∷ drop z (regionsIn n l₀)) ej in
+      drop-cons (regionsIn n l₀) (k - 1) d (omega arith) ∙ ap (λ (z : ℕ). getD (regionsIn n l₀) (k - 1) d ∷ drop z (regionsIn n l₀)) ej in
       record {
         same = same ∙ p .same;
         at = omega arith;
         before = ap (take (k - 1)) es ∙ take-at (take (k - 1) (regionsIn n l)) _ (k - 1) lj
-          ∙ sym (take-take (k - 1) k (regionsIn n l) (omega arith)) ∙ ap (take (k - 1)) (p .before) ∙ take-take (k - 1) k (regionsIn n l₀) (omega arith);
+            ∙ sym (take-take (k - 1) k (regionsIn n l) (omega arith)) ∙ ap (take (k - 1)) (p .before) ∙ take-take (k - 1) k (regionsIn n l₀) (omega arith);
         behind = ap (drop (k - 1)) es ∙ drop-at (take (k - 1) (regionsIn n l)) _ (k - 1) lj
-          ∙ ap (λ (z : ℕ). insert merging (regionAt (block 10 (k - 1) l)) (drop z (regionsIn n l))) ek
-          ∙ ap (insert merging (regionAt (block 10 (k - 1) l))) (p .behind)
-          ∙ ap (λ (z : Region). insert merging z (ordered merging (drop k (regionsIn n l₀)))) x
-          ∙ ap (ordered merging) (sym t);
-        rest = er ∙ p .rest }
+            ∙ ap (λ (z : ℕ). insert merging (regionAt (block 10 (k - 1) l)) (drop z (regionsIn n l))) ek
+            ∙ ap (insert merging (regionAt (block 10 (k - 1) l))) (p .behind)
+            ∙ ap (λ (z : Region). insert merging z (ordered merging (drop k (regionsIn n l₀)))) x
+            ∙ ap (ordered merging) (sym t);
+        rest = er ∙ p .rest;
+      }
 
   pub sort-done : k ≤ 0 → regionsIn n l ≡ ordered merging (regionsIn n l₀)
   sort-done h = let z : k ≡ 0 = omega arith in rw z at (p .behind)

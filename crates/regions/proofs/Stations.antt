@@ -34,28 +34,34 @@ module _ (a0 a1 b0 b1 s : Float) (p0 : Number a0) (p1 : Number a1) (q0 : Number 
 -- ---- a union of valid regions is valid and holds what each holds
 module _ (r q : Region) (v : Valid r) (w : Valid q) where
   pub union-valid : Valid (unionOf r q)
-  union-valid =
-      (least-is (r .a0) (q .a0) (v .0) (w .0) .number, greatest-is (r .a1) (q .a1) (v .1) (w .1) .number,
-       least-is (r .b0) (q .b0) (v .2) (w .2) .number, greatest-is (r .b1) (q .b1) (v .3) (w .3) .number)
+  union-valid = (
+    least-is (r .a0) (q .a0) (v .0) (w .0) .number,
+    greatest-is (r .a1) (q .a1) (v .1) (w .1) .number,
+    least-is (r .b0) (q .b0) (v .2) (w .2) .number,
+    greatest-is (r .b1) (q .b1) (v .3) (w .3) .number,
+  )
 
   pub union-left : (s t : Float) → InRegion s t r → InRegion s t (unionOf r q)
-  union-left s t h =
-      (range-left (r .a0) (r .a1) (q .a0) (q .a1) s (v .0) (v .1) (w .0) (w .1) (h .0),
-       range-left (r .b0) (r .b1) (q .b0) (q .b1) t (v .2) (v .3) (w .2) (w .3) (h .1))
+  union-left s t h = (
+    range-left (r .a0) (r .a1) (q .a0) (q .a1) s (v .0) (v .1) (w .0) (w .1) (h .0),
+    range-left (r .b0) (r .b1) (q .b0) (q .b1) t (v .2) (v .3) (w .2) (w .3) (h .1),
+  )
 
   pub union-right : (s t : Float) → InRegion s t q → InRegion s t (unionOf r q)
-  union-right s t h =
-      (range-right (r .a0) (r .a1) (q .a0) (q .a1) s (v .0) (v .1) (w .0) (w .1) (h .0),
-       range-right (r .b0) (r .b1) (q .b0) (q .b1) t (v .2) (v .3) (w .2) (w .3) (h .1))
+  union-right s t h = (
+    range-right (r .a0) (r .a1) (q .a0) (q .a1) s (v .0) (v .1) (w .0) (w .1) (h .0),
+    range-right (r .b0) (r .b1) (q .b0) (q .b1) t (v .2) (v .3) (w .2) (w .3) (h .1),
+  )
 
 -- ---- merging
 keeping : Keeping merging (Float × Float)
 keeping = record {
-    Valid = Valid;
-    Has = λ r x. InRegion (x .0) (x .1) r;
-    valid-join = union-valid;
-    has-left = λ r q x v w h. union-left r q v w (x .0) (x .1) h;
-    has-right = λ r q x v w h. union-right r q v w (x .0) (x .1) h }
+  Valid = Valid;
+  Has = λ r x. InRegion (x .0) (x .1) r;
+  valid-join = union-valid;
+  has-left = λ r q x v w h. union-left r q v w (x .0) (x .1) h;
+  has-right = λ r q x v w h. union-right r q v w (x .0) (x .1) h;
+}
 
 -- no two merged regions touch, whatever the raw ones are
 pub merged-apart : (raw : List Region) → Pairwise (Off merging) (merged merging raw)

@@ -19,9 +19,17 @@ touchesOf r q = meetOf (r .a0) (r .a1) (q .a0) (q .a1) && meetOf (r .b0) (r .b1)
 -- `union`: the smallest ranges (`span`) and the smallest box (`box_union`) that hold both
 abbrev pub unionOf : Region → Region → Region
 unionOf r q = record {
-    a0 = least (r .a0) (q .a0); a1 = greatest (r .a1) (q .a1); b0 = least (r .b0) (q .b0); b1 = greatest (r .b1) (q .b1);
-    x0 = least (r .x0) (q .x0); y0 = least (r .y0) (q .y0); z0 = least (r .z0) (q .z0);
-    x1 = greatest (r .x1) (q .x1); y1 = greatest (r .y1) (q .y1); z1 = greatest (r .z1) (q .z1) }
+  a0 = least (r .a0) (q .a0);
+  a1 = greatest (r .a1) (q .a1);
+  b0 = least (r .b0) (q .b0);
+  b1 = greatest (r .b1) (q .b1);
+  x0 = least (r .x0) (q .x0);
+  y0 = least (r .y0) (q .y0);
+  z0 = least (r .z0) (q .z0);
+  x1 = greatest (r .x1) (q .x1);
+  y1 = greatest (r .y1) (q .y1);
+  z1 = greatest (r .z1) (q .z1);
+}
 
 -- what `merged` needs of a region: `touches`, `union`, and the order by first start, in which zeros are equal
 abbrev pub merging : Merging
@@ -38,8 +46,17 @@ flats (r ∷ rs) = flat r ++ flats rs
 -- the region whose ten floats stand first in a list
 abbrev pub regionAt : List Float → Region
 regionAt l = record {
-    a0 = getD l 0 nan; a1 = getD l 1 nan; b0 = getD l 2 nan; b1 = getD l 3 nan;
-    x0 = getD l 4 nan; y0 = getD l 5 nan; z0 = getD l 6 nan; x1 = getD l 7 nan; y1 = getD l 8 nan; z1 = getD l 9 nan }
+  a0 = getD l 0 nan;
+  a1 = getD l 1 nan;
+  b0 = getD l 2 nan;
+  b1 = getD l 3 nan;
+  x0 = getD l 4 nan;
+  y0 = getD l 5 nan;
+  z0 = getD l 6 nan;
+  x1 = getD l 7 nan;
+  y1 = getD l 8 nan;
+  z1 = getD l 9 nan;
+}
 
 -- the first n regions of a list
 abbrev pub regionsIn : ℕ → List Float → List Region

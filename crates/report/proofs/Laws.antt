@@ -93,7 +93,8 @@ room-left x d s n e l f =
       nets2 = slots-fit (x .pairs) (x .waiting) (4 * x .width2) (s .nets2) w (R .nets2);
       ranges = slots-fit (x .pairs) (x .waiting) 4 (s .ranges) w (R .ranges);
       raw = le-trans (mul-le-mul-right 10 g) (R .raw);
-      slice = le-trans (mul-le-mul-right 10 g) k }
+      slice = le-trans (mul-le-mul-right 10 g) k;
+    }
 
 -- ---- a report: one test a return
 module _ (G : Geometry) (x : State) (u : Memory) (slice : List Float) where

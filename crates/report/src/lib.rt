@@ -21,7 +21,13 @@ pub enum Reported {
 }
 
 // The region of the node in slot k.
-fn slot_region<'a>(st: State, nets1: &'a [f64], nets2: &'a [f64], ranges: &[f64], k: usize) -> Region
+fn slot_region<'a>(
+    st: State,
+    nets1: &'a [f64],
+    nets2: &'a [f64],
+    ranges: &[f64],
+    k: usize,
+) -> Region
     requires { ⌜ ((k + 1) * (4 * st .width1) ≤ length (now nets1)) × ((k + 1) * (4 * st .width2) ≤ length (now nets2)) × ((k + 1) * 4 ≤ length (now ranges)) ⌝ }
     ensures { λ r. ⌜ r ≡ slotRegion geometry st (now (nets1 .entry)) (now (nets2 .entry)) (now (ranges .entry)) k ⌝ }
 {
@@ -52,13 +58,28 @@ fn has_report_room(st: State, report: usize) -> bool
 }
 
 // The report: 21, then 19, else the raw list whole in the raw slice, and in the report slice the merged regions, then +0 up to the raw list's length.
-pub fn report<'a>(st: State, nets1: &'a [f64], nets2: &'a [f64], ranges: &[f64], depths: &[u8], raw: &mut [f64], out: &mut [f64]) -> Reported
+pub fn report<'a>(
+    st: State,
+    nets1: &'a [f64],
+    nets2: &'a [f64],
+    ranges: &[f64],
+    depths: &[u8],
+    raw: &mut [f64],
+    out: &mut [f64],
+) -> Reported
     ensures { λ r. ⌜ _≡_ {A = Reporting} (reporting r (memory (now (nets1 .entry)) (now (nets2 .entry)) (now (ranges .entry)) (now (depths .entry)) (now (raw .exit))) (now (out .exit))) (reportDef geometry st (memory (now (nets1 .entry)) (now (nets2 .entry)) (now (ranges .entry)) (now (depths .entry)) (now (raw .entry))) (now (out .entry))) ⌝ }
 {
     if !states::ended(st) {
         return Reported::Running;
     }
-    if !states::has_room(st, nets1.len(), nets2.len(), ranges.len(), depths.len(), raw.len()) {
+    if !states::has_room(
+        st,
+        nets1.len(),
+        nets2.len(),
+        ranges.len(),
+        depths.len(),
+        raw.len(),
+    ) {
         return Reported::NoRoom;
     }
     if !has_report_room(st, out.len()) {

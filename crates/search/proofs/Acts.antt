@@ -38,12 +38,12 @@ slots-are false w k s p e h = rw e refl
 
 ranges-split : (second : Bool) (k : ℕ) (l : List Float) (a b : List Float)
     → let p : Piece = record { lo = getD l 0 nan; hi = getD l 1 nan; net = a } in
-      let q : Piece = record { lo = getD l 2 nan; hi = getD l 3 nan; net = b } in
-      let p0 = halves geometry (not second) true p in
-      let p1 = halves geometry (not second) false p in
-      let q0 = halves geometry second true q in
-      let q1 = halves geometry second false q in
-      rangesHalved second l ≡ (p0 .lo ∷ p0 .hi ∷ q0 .lo ∷ q0 .hi ∷ []) ++ (p1 .lo ∷ p1 .hi ∷ q1 .lo ∷ q1 .hi ∷ [])
+    let q : Piece = record { lo = getD l 2 nan; hi = getD l 3 nan; net = b } in
+    let p0 = halves geometry (not second) true p in
+    let p1 = halves geometry (not second) false p in
+    let q0 = halves geometry second true q in
+    let q1 = halves geometry second false q in
+    rangesHalved second l ≡ (p0 .lo ∷ p0 .hi ∷ q0 .lo ∷ q0 .hi ∷ []) ++ (p1 .lo ∷ p1 .hi ∷ q1 .lo ∷ q1 .hi ∷ [])
 ranges-split true k l a b = refl
 ranges-split false k l a b = refl
 
@@ -102,7 +102,7 @@ module _ (x : State) (u : Memory) (k d : ℕ) (a b : Aabb) (ea : a ≡ boxOf (bl
       let l1 = part-length (k * (4 * x .width1)) (4 * x .width1) (u .nets1) (room k (4 * x .width1) (length (u .nets1)) h1) in
       let l2 = part-length (k * (4 * x .width2)) (4 * x .width2) (u .nets2) (room k (4 * x .width2) (length (u .nets2)) h2) in
       rw t (spend (x .unspent) r (memory n1 n2 rg dp (u .raw)) p e (memory-split n1 n2 rg dp l1 l2 e1 e2 e3 e4)
-        ∙ ap (λ (j : ℕ). divideAt geometry false (x .unspent) k x u (part1 x u k) (part2 x u k) j) ed)
+      ∙ ap (λ (j : ℕ). divideAt geometry false (x .unspent) k x u (part1 x u k) (part2 x u k) j) ed)
     where
       room : (k w n : ℕ) → (k + 1) * w ≤ n → k * w + w ≤ n
       room k w n h = omega arith

@@ -18,7 +18,7 @@ use Rattle.search.specs.Writes.{rangesHalved, rangesAfter, depthsAfter}
 pub region-is : (l : List Float) (k : ℕ) (c : Corners) (x0 y0 z0 x1 y1 z1 : Float)
     → x0 ≡ c .x0 → y0 ≡ c .y0 → z0 ≡ c .z0 → x1 ≡ c .x1 → y1 ≡ c .y1 → z1 ≡ c .z1
     → _≡_ {A = Region} (record { a0 = getD l (k * 4) nan; a1 = getD l (k * 4 + 1) nan; b0 = getD l (k * 4 + 2) nan; b1 = getD l (k * 4 + 3) nan; x0 = x0; y0 = y0; z0 = z0; x1 = x1; y1 = y1; z1 = z1 })
-      (regionWith c (block 4 k l))
+    (regionWith c (block 4 k l))
 region-is l k c x0 y0 z0 x1 y1 z1 e0 e1 e2 e3 e4 e5 =
     rw (block-get 4 k 0 l nan (omega arith), block-get 4 k 1 l nan (omega arith), block-get 4 k 2 l nan (omega arith), block-get 4 k 3 l nan (omega arith), add-zero, e0, e1, e2, e3, e4, e5) refl
 

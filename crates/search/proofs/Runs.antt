@@ -106,9 +106,11 @@ measure-falls x y o f = go (x .stopped) refl f
     small : (b : Bool) → bit b ≤ 1
     small true = omega arith
     small false = omega arith
+
     not-both : (a b : Bool) → a ≡ true → a || b ≡ false → ⊥
     not-both true b e f = true≢false f
     not-both false b e f = false≢true e
+
     go : (b : Bool) → x .stopped ≡ b → Falls x y → left y + bit (y .stopped) < left x + bit b
     go true e f = absurd (not-both (x .stopped) _ e o)
     go false e (inl f) = let s = small (y .stopped) in omega arith

@@ -69,7 +69,8 @@ sound x d h e =
       deep = t .1;
       balance = eqb-true _ _ (and-first b2 (b3 && b4) e2);
       allowance = eqb-true _ _ (and-first b3 b4 e3);
-      seen = leb-true _ _ (and-second b3 b4 e3) }
+      seen = leb-true _ _ (and-second b3 b4 e3);
+    }
 
 -- slots of n numbers: so many fit as nodes wait, of a list with room for P + 64
 pub slots-fit : (P k n len : ℕ) → k ≤ P + 64 → (P + 64) * n ≤ len → k * n ≤ len
@@ -87,7 +88,8 @@ room-own x s e =
     let b3 = leb ((x .pairs + 64) * 1) (s .depths) in
     record {
       nets1 = leb-true _ _ (and-first b1 (b2 && b3) e);
-      nets2 = leb-true _ _ (and-first b2 b3 (and-second b1 (b2 && b3) e)) }
+      nets2 = leb-true _ _ (and-first b2 b3 (and-second b1 (b2 && b3) e));
+    }
 
 pub top-slot : (x : State) (d n len : ℕ) → over x ≡ false → searchWith x d ≡ true → (x .pairs + 64) * n ≤ len → (x .waiting - 1 + 1) * n ≤ len
 top-slot x d n len o e r =
@@ -137,7 +139,8 @@ room-all x s e =
       nets2 = leb-true _ _ (and-first b2 (b3 && (b4 && b5)) e2);
       ranges = leb-true _ _ (and-first b3 (b4 && b5) e3);
       depths = leb-true _ _ (and-first b4 b5 e4);
-      raw = leb-true _ _ (and-second b4 b5 e4) }
+      raw = leb-true _ _ (and-second b4 b5 e4);
+    }
 
 -- an accepted step has room; the two bounds are those of the state's 16-bit fields
 pub room : (x : State) (d : ℕ) (s : Sizes) → x .pairs ≤ 65535 → x .quota ≤ 65535 → over x ≡ false → enough (needed x) s ≡ true → searchWith x d ≡ true → Room x (x .waiting - 1) d s
@@ -164,13 +167,15 @@ room x d s hp hq o e f =
       spent = omega arith;
       steps = omega arith;
       above = λ (h : d < 64).
-        let k2 : x .waiting - 1 + 2 ≤ x .pairs + 64 = omega arith in
-        record {
-          nets1 = slots-fit (x .pairs) (x .waiting - 1 + 2) (4 * x .width1) (s .nets1) k2 (R .nets1);
-          nets2 = slots-fit (x .pairs) (x .waiting - 1 + 2) (4 * x .width2) (s .nets2) k2 (R .nets2);
-          ranges = slots-fit (x .pairs) (x .waiting - 1 + 2) 4 (s .ranges) k2 (R .ranges);
-          depths = (let z = slots-fit (x .pairs) (x .waiting - 1 + 2) 1 (s .depths) k2 (R .depths) in omega arith);
-          few = omega arith } }
+          let k2 : x .waiting - 1 + 2 ≤ x .pairs + 64 = omega arith in
+          record {
+            nets1 = slots-fit (x .pairs) (x .waiting - 1 + 2) (4 * x .width1) (s .nets1) k2 (R .nets1);
+            nets2 = slots-fit (x .pairs) (x .waiting - 1 + 2) (4 * x .width2) (s .nets2) k2 (R .nets2);
+            ranges = slots-fit (x .pairs) (x .waiting - 1 + 2) 4 (s .ranges) k2 (R .ranges);
+            depths = (let z = slots-fit (x .pairs) (x .waiting - 1 + 2) 1 (s .depths) k2 (R .depths) in omega arith);
+            few = omega arith;
+          };
+    }
 
 module _ (G : Geometry) (x : State) (u : Memory) (v : Verdict) where
   pub step-ended : over x ≡ true → stepping Ended u ≡ stepDef G x u v

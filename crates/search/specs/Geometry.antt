@@ -38,13 +38,14 @@ upperHalf G p = record { lo = middle (p .lo) (p .hi); hi = p .hi; net = G .upper
 
 abbrev pub floats : Geometry → Float → Shape
 floats G gap = record {
-    Part = Piece;
-    Station = Float;
-    Holds = λ p s. InRange (p .lo) (p .hi) s;
-    lower = lowerHalf G;
-    upper = upperHalf G;
-    apart = λ p q. G .boxesApart gap (p .net) (q .net);
-    second = λ p q. G .secondHalved (p .net) (q .net) }
+  Part = Piece;
+  Station = Float;
+  Holds = λ p s. InRange (p .lo) (p .hi) s;
+  lower = lowerHalf G;
+  upper = upperHalf G;
+  apart = λ p q. G .boxesApart gap (p .net) (q .net);
+  second = λ p q. G .secondHalved (p .net) (q .net);
+}
 
 -- `region` of the Rust: a node's ranges, and the box of both its nets
 abbrev pub regionWith : Corners → List Float → Region

@@ -47,21 +47,69 @@ part2 x u k = record { lo = getD (block 4 k (u .ranges)) 2 nan; hi = getD (block
 
 -- ---- the state after a node, k below it, is settled, given up, kept at no allowance, or halved
 abbrev pub settledState : ℕ → State → State
-settledState k x = record { pairs = x .pairs; quota = x .quota; waiting = k; visits = suc (x .visits); splits = x .splits; unspent = x .unspent;
-    settled = suc (x .settled); given = x .given; width1 = x .width1; width2 = x .width2; gap = x .gap; stopped = x .stopped }
+settledState k x = record {
+  pairs = x .pairs;
+  quota = x .quota;
+  waiting = k;
+  visits = suc (x .visits);
+  splits = x .splits;
+  unspent = x .unspent;
+  settled = suc (x .settled);
+  given = x .given;
+  width1 = x .width1;
+  width2 = x .width2;
+  gap = x .gap;
+  stopped = x .stopped;
+}
 
 abbrev pub givenState : ℕ → State → State
-givenState k x = record { pairs = x .pairs; quota = x .quota; waiting = k; visits = suc (x .visits); splits = x .splits; unspent = x .unspent;
-    settled = x .settled; given = suc (x .given); width1 = x .width1; width2 = x .width2; gap = x .gap; stopped = x .stopped }
+givenState k x = record {
+  pairs = x .pairs;
+  quota = x .quota;
+  waiting = k;
+  visits = suc (x .visits);
+  splits = x .splits;
+  unspent = x .unspent;
+  settled = x .settled;
+  given = suc (x .given);
+  width1 = x .width1;
+  width2 = x .width2;
+  gap = x .gap;
+  stopped = x .stopped;
+}
 
 abbrev pub stoppedState : State → State
-stoppedState x = record { pairs = x .pairs; quota = x .quota; waiting = x .waiting; visits = suc (x .visits); splits = x .splits; unspent = zero;
-    settled = x .settled; given = x .given; width1 = x .width1; width2 = x .width2; gap = x .gap; stopped = true }
+stoppedState x = record {
+  pairs = x .pairs;
+  quota = x .quota;
+  waiting = x .waiting;
+  visits = suc (x .visits);
+  splits = x .splits;
+  unspent = zero;
+  settled = x .settled;
+  given = x .given;
+  width1 = x .width1;
+  width2 = x .width2;
+  gap = x .gap;
+  stopped = true;
+}
 
 -- s is the allowance left after it
 abbrev pub halvedState : ℕ → ℕ → State → State
-halvedState k s x = record { pairs = x .pairs; quota = x .quota; waiting = suc (suc k); visits = suc (x .visits); splits = suc (x .splits); unspent = s;
-    settled = x .settled; given = x .given; width1 = x .width1; width2 = x .width2; gap = x .gap; stopped = x .stopped }
+halvedState k s x = record {
+  pairs = x .pairs;
+  quota = x .quota;
+  waiting = suc (suc k);
+  visits = suc (x .visits);
+  splits = suc (x .splits);
+  unspent = s;
+  settled = x .settled;
+  given = x .given;
+  width1 = x .width1;
+  width2 = x .width2;
+  gap = x .gap;
+  stopped = x .stopped;
+}
 
 -- ---- the memory after it
 -- the region goes to 10 × the given count before it
@@ -87,7 +135,8 @@ splitMemory G k x u p q d =
       nets2 = patch (u .nets2) (k * (4 * x .width2)) (q0 .net ++ q1 .net);
       ranges = patch (u .ranges) (k * 4) ((p0 .lo ∷ p0 .hi ∷ q0 .lo ∷ q0 .hi ∷ []) ++ (p1 .lo ∷ p1 .hi ∷ q1 .lo ∷ q1 .hi ∷ []));
       depths = patch (u .depths) (k * 1) ((d ∷ []) ++ (d ∷ []));
-      raw = u .raw }
+      raw = u .raw;
+    }
 
 -- ---- a step
 abbrev pub giveUpAt : Geometry → ℕ → State → Memory → Piece → Piece → Stepping

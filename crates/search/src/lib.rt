@@ -179,7 +179,17 @@ fn give_up(st: State, k: u32, a: Aabb, b: Aabb, ranges: &[f64], raw: &mut [f64])
 }
 
 // Node k is halved along the line with the larger box, along the second where they are equal.
-fn halve(st: State, k: u32, depth: u8, a: Aabb, b: Aabb, nets1: &mut [f64], nets2: &mut [f64], ranges: &mut [f64], depths: &mut [u8]) -> State
+fn halve(
+    st: State,
+    k: u32,
+    depth: u8,
+    a: Aabb,
+    b: Aabb,
+    nets1: &mut [f64],
+    nets2: &mut [f64],
+    ranges: &mut [f64],
+    depths: &mut [u8],
+) -> State
     requires { ⌜ Above st k (record { nets1 = length (now nets1); nets2 = length (now nets2); ranges = length (now ranges); depths = length (now depths); raw = 0 }) ⌝ }
     requires { ⌜ (depth < 64) × (1 ≤ st .unspent) × (st .splits < 4294967295) × (st .visits < 18446744073709551615) ⌝ }
     ensures { λ r. ⌜ (r ≡ halvedState k (st .unspent - 1) st) × (now (nets1 .exit) ≡ slotsAfter (not (secondHalved a b)) (st .width1) k (now (nets1 .entry))) × (now (nets2 .exit) ≡ slotsAfter (secondHalved a b) (st .width2) k (now (nets2 .entry))) × (now (ranges .exit) ≡ rangesAfter (secondHalved a b) k (now (ranges .entry))) × (now (depths .exit) ≡ depthsAfter depth k (now (depths .entry))) ⌝ }
@@ -194,7 +204,19 @@ fn halve(st: State, k: u32, depth: u8, a: Aabb, b: Aabb, nets1: &mut [f64], nets
 }
 
 // A step that isn't refused: node k, the top, has this depth and these boxes.
-fn advance(st: State, v: Verdict, k: u32, depth: u8, a: Aabb, b: Aabb, nets1: &mut [f64], nets2: &mut [f64], ranges: &mut [f64], depths: &mut [u8], raw: &mut [f64]) -> State
+fn advance(
+    st: State,
+    v: Verdict,
+    k: u32,
+    depth: u8,
+    a: Aabb,
+    b: Aabb,
+    nets1: &mut [f64],
+    nets2: &mut [f64],
+    ranges: &mut [f64],
+    depths: &mut [u8],
+    raw: &mut [f64],
+) -> State
     requires { ⌜ Room st k depth (sizes (memory (now nets1) (now nets2) (now ranges) (now depths) (now raw))) ⌝ }
     requires { ⌜ (a ≡ boxOf (block (4 * st .width1) k (now nets1))) × (b ≡ boxOf (block (4 * st .width2) k (now nets2))) × (depth ≡ depthAt (now depths) k) ⌝ }
     ensures { λ r. ⌜ _≡_ {A = Stepping} (stepping (Stepped.Next r) (memory (now (nets1 .exit)) (now (nets2 .exit)) (now (ranges .exit)) (now (depths .exit)) (now (raw .exit)))) (actOn geometry (suc k) v st (memory (now (nets1 .entry)) (now (nets2 .entry)) (now (ranges .entry)) (now (depths .entry)) (now (raw .entry)))) ⌝ }
@@ -215,13 +237,28 @@ fn advance(st: State, v: Verdict, k: u32, depth: u8, a: Aabb, b: Aabb, nets1: &m
 }
 
 // A step with a verdict for the top node: 20, then 19, else the verdict is carried out.
-pub fn step(st: State, v: Verdict, nets1: &mut [f64], nets2: &mut [f64], ranges: &mut [f64], depths: &mut [u8], raw: &mut [f64]) -> Stepped
+pub fn step(
+    st: State,
+    v: Verdict,
+    nets1: &mut [f64],
+    nets2: &mut [f64],
+    ranges: &mut [f64],
+    depths: &mut [u8],
+    raw: &mut [f64],
+) -> Stepped
     ensures { λ r. ⌜ _≡_ {A = Stepping} (stepping r (memory (now (nets1 .exit)) (now (nets2 .exit)) (now (ranges .exit)) (now (depths .exit)) (now (raw .exit)))) (stepDef geometry st (memory (now (nets1 .entry)) (now (nets2 .entry)) (now (ranges .entry)) (now (depths .entry)) (now (raw .entry))) v) ⌝ }
 {
     if states::ended(st) {
         return Stepped::Ended;
     }
-    if !states::has_room(st, nets1.len(), nets2.len(), ranges.len(), depths.len(), raw.len()) {
+    if !states::has_room(
+        st,
+        nets1.len(),
+        nets2.len(),
+        ranges.len(),
+        depths.len(),
+        raw.len(),
+    ) {
         return Stepped::NoRoom;
     }
     let depth = states::top_depth(depths, st.waiting);
@@ -236,13 +273,27 @@ pub fn step(st: State, v: Verdict, nets1: &mut [f64], nets2: &mut [f64], ranges:
 }
 
 // A step with the search's own verdict: what `own_verdict` and then `step` do, with the nets divided once.
-pub fn own_step(st: State, nets1: &mut [f64], nets2: &mut [f64], ranges: &mut [f64], depths: &mut [u8], raw: &mut [f64]) -> Stepped
+pub fn own_step(
+    st: State,
+    nets1: &mut [f64],
+    nets2: &mut [f64],
+    ranges: &mut [f64],
+    depths: &mut [u8],
+    raw: &mut [f64],
+) -> Stepped
     ensures { λ r. ⌜ _≡_ {A = Stepping} (stepping r (memory (now (nets1 .exit)) (now (nets2 .exit)) (now (ranges .exit)) (now (depths .exit)) (now (raw .exit)))) (ownStepDef geometry st (memory (now (nets1 .entry)) (now (nets2 .entry)) (now (ranges .entry)) (now (depths .entry)) (now (raw .entry)))) ⌝ }
 {
     if states::ended(st) {
         return Stepped::Ended;
     }
-    if !states::has_room(st, nets1.len(), nets2.len(), ranges.len(), depths.len(), raw.len()) {
+    if !states::has_room(
+        st,
+        nets1.len(),
+        nets2.len(),
+        ranges.len(),
+        depths.len(),
+        raw.len(),
+    ) {
         return Stepped::NoRoom;
     }
     let depth = states::top_depth(depths, st.waiting);
@@ -265,7 +316,14 @@ pub fn own_step(st: State, nets1: &mut [f64], nets2: &mut [f64], ranges: &mut [f
 // ---- the loop
 
 // Steps with the search's own verdicts until the search ends; the state then, or the refusal of a step.
-pub fn run(st: State, nets1: &mut [f64], nets2: &mut [f64], ranges: &mut [f64], depths: &mut [u8], raw: &mut [f64]) -> Stepped
+pub fn run(
+    st: State,
+    nets1: &mut [f64],
+    nets2: &mut [f64],
+    ranges: &mut [f64],
+    depths: &mut [u8],
+    raw: &mut [f64],
+) -> Stepped
     ensures { λ r. ⌜ _≡_ {A = Stepping} (stepping r (memory (now (nets1 .exit)) (now (nets2 .exit)) (now (ranges .exit)) (now (depths .exit)) (now (raw .exit)))) (runDef geometry st (memory (now (nets1 .entry)) (now (nets2 .entry)) (now (ranges .entry)) (now (depths .entry)) (now (raw .entry)))) ⌝ }
 {
     let mut s = st;

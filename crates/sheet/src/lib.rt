@@ -180,7 +180,16 @@ fn put_refusal(out: &mut [u8], number: u8, line: u8) -> usize
 // ---- from a search to its text
 
 // The report of a search that has ended.
-fn answer_report<'a>(st: State, nets1: &'a [f64], nets2: &'a [f64], ranges: &[f64], depths: &[u8], raw: &mut [f64], list: &mut [f64], out: &mut [u8]) -> usize
+fn answer_report<'a>(
+    st: State,
+    nets1: &'a [f64],
+    nets2: &'a [f64],
+    ranges: &[f64],
+    depths: &[u8],
+    raw: &mut [f64],
+    list: &mut [f64],
+    out: &mut [u8],
+) -> usize
     requires { ⌜ (145169 ≤ length (now out)) × (length (now list) ≤ 8190) ⌝ }
     ensures { λ r. ⌜ (r ≡ 0 + length (reportText st (memory (now (nets1 .entry)) (now (nets2 .entry)) (now (ranges .entry)) (now (depths .entry)) (now (raw .entry))) (now (list .entry)))) × (now (out .exit) ≡ patch (now (out .entry)) 0 (reportText st (memory (now (nets1 .entry)) (now (nets2 .entry)) (now (ranges .entry)) (now (depths .entry)) (now (raw .entry))) (now (list .entry)))) ⌝ }
 {
@@ -195,7 +204,16 @@ fn answer_report<'a>(st: State, nets1: &'a [f64], nets2: &'a [f64], ranges: &[f6
 }
 
 // An open search run to its end, and its report.
-fn answer_search(st: State, nets1: &mut [f64], nets2: &mut [f64], ranges: &mut [f64], depths: &mut [u8], raw: &mut [f64], list: &mut [f64], out: &mut [u8]) -> usize
+fn answer_search(
+    st: State,
+    nets1: &mut [f64],
+    nets2: &mut [f64],
+    ranges: &mut [f64],
+    depths: &mut [u8],
+    raw: &mut [f64],
+    list: &mut [f64],
+    out: &mut [u8],
+) -> usize
     requires { ⌜ (145169 ≤ length (now out)) × (length (now list) ≤ 8190) ⌝ }
     ensures { λ r. ⌜ (r ≡ 0 + length (searchText st (memory (now (nets1 .entry)) (now (nets2 .entry)) (now (ranges .entry)) (now (depths .entry)) (now (raw .entry))) (now (list .entry)))) × (now (out .exit) ≡ patch (now (out .entry)) 0 (searchText st (memory (now (nets1 .entry)) (now (nets2 .entry)) (now (ranges .entry)) (now (depths .entry)) (now (raw .entry))) (now (list .entry)))) ⌝ }
 {
@@ -262,8 +280,36 @@ fn answer_lines(
     let mut depths = depth_room();
     let mut raw = region_room();
     let mut list = region_room();
-    match opening::open(q, degree1, knots1, mults1, coords1, weights1, degree2, knots2, mults2, coords2, weights2, &mut pieces1, &mut pieces2, &mut nets1, &mut nets2, &mut ranges, &mut depths, &raw) {
-        Opened::Open(st) => answer_search(st, &mut nets1, &mut nets2, &mut ranges, &mut depths, &mut raw, &mut list, out),
+    match opening::open(
+        q,
+        degree1,
+        knots1,
+        mults1,
+        coords1,
+        weights1,
+        degree2,
+        knots2,
+        mults2,
+        coords2,
+        weights2,
+        &mut pieces1,
+        &mut pieces2,
+        &mut nets1,
+        &mut nets2,
+        &mut ranges,
+        &mut depths,
+        &raw,
+    ) {
+        Opened::Open(st) => answer_search(
+            st,
+            &mut nets1,
+            &mut nets2,
+            &mut ranges,
+            &mut depths,
+            &mut raw,
+            &mut list,
+            out,
+        ),
         Opened::BadLine(line, a) => put_refusal(out, admission_number(a), line),
         Opened::BadQuestion(a) => put_refusal(out, asked_number(a), asked_line(a)),
         Opened::NoRoom => put_refusal(out, 19, 0),
@@ -326,7 +372,20 @@ fn answer_second(
     walks::read_words(s, l.mults.at, m, &mut mults);
     walks::read_floats(s, l.poles.at, c, &mut coords);
     walks::read_floats(s, l.weights.at, w, &mut weights);
-    answer_lines(q, degree1, knots1, mults1, coords1, weights1, l.degree, &knots[..k], &mults[..m], &coords[..c], &weights[..w], out)
+    answer_lines(
+        q,
+        degree1,
+        knots1,
+        mults1,
+        coords1,
+        weights1,
+        l.degree,
+        &knots[..k],
+        &mults[..m],
+        &coords[..c],
+        &weights[..w],
+        out,
+    )
 }
 
 // The first line read, then the second.
@@ -346,7 +405,17 @@ fn answer_first(s: &[u8], q: Question, l: Line, second: Line, out: &mut [u8]) ->
     walks::read_words(s, l.mults.at, m, &mut mults);
     walks::read_floats(s, l.poles.at, c, &mut coords);
     walks::read_floats(s, l.weights.at, w, &mut weights);
-    answer_second(s, q, l.degree, &knots[..k], &mults[..m], &coords[..c], &weights[..w], second, out)
+    answer_second(
+        s,
+        q,
+        l.degree,
+        &knots[..k],
+        &mults[..m],
+        &coords[..c],
+        &weights[..w],
+        second,
+        out,
+    )
 }
 
 // The answer to any bytes, from the front of `out`; answers how many bytes it has.

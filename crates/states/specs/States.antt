@@ -35,8 +35,12 @@ sizes u = record { nets1 = length (u .nets1); nets2 = length (u .nets2); ranges 
 -- "nets (P + 64) × 4 × width for each line; node ranges 4 × (P + 64), and as many depths as nodes; raw regions 10 × P × (S + 1)"
 abbrev pub needed : State → Sizes
 needed x = record {
-    nets1 = (x .pairs + limit) * (4 * x .width1); nets2 = (x .pairs + limit) * (4 * x .width2);
-    ranges = (x .pairs + limit) * 4; depths = (x .pairs + limit) * 1; raw = x .pairs * suc (x .quota) * 10 }
+  nets1 = (x .pairs + limit) * (4 * x .width1);
+  nets2 = (x .pairs + limit) * (4 * x .width2);
+  ranges = (x .pairs + limit) * 4;
+  depths = (x .pairs + limit) * 1;
+  raw = x .pairs * suc (x .quota) * 10;
+}
 
 abbrev pub enough : Sizes → Sizes → Bool
 enough need have = leb (need .nets1) (have .nets1) && (leb (need .nets2) (have .nets2) && (leb (need .ranges) (have .ranges) && (leb (need .depths) (have .depths) && leb (need .raw) (have .raw))))

@@ -79,7 +79,14 @@ pub fn has_room_to_judge(st: State, nets1: usize, nets2: usize, depths: usize) -
 }
 
 // Whether lent slices of these lengths are enough.
-pub fn has_room(st: State, nets1: usize, nets2: usize, ranges: usize, depths: usize, raw: usize) -> bool
+pub fn has_room(
+    st: State,
+    nets1: usize,
+    nets2: usize,
+    ranges: usize,
+    depths: usize,
+    raw: usize,
+) -> bool
     ensures { λ r. ⌜ r ≡ enough (needed st) (record { nets1 = nets1; nets2 = nets2; ranges = ranges; depths = depths; raw = raw }) ⌝ }
 {
     let nodes = st.pairs as usize + 64;

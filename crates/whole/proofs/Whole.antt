@@ -83,6 +83,7 @@ module _ (s : List ℕ) where
       end : (b : Bool) (x : Sheet) → Few (cond b (refusedAs 3) (walked x))
       end true x = (lit≤ tt, lit≤ tt)
       end false x = tt
+
       by : (b : Bool) (w : Walked) → Few w → Few (cond b (refusedAs 1) w)
       by true w h = (lit≤ tt, lit≤ tt)
       by false w h = h

@@ -65,10 +65,13 @@ push-requires c κs =
     let k1 = c .before .before .before .before .before .before .before .before .before .before .before .before .breaks .ensures .4 in
     let k2 = c .before .before .before .before .before .before .before .before .before .breaks2 .ensures .4 in
     let l1 = c .before .before .before .before .before .before .before .before .before .before .before .before .before .before .before .before .before .before .before .before .before .before .before .before .before .pre .0 .0 in
-    let l2 = c .before .before .before .before .before .before .before .before .before .before .before .before .before .before .before .before .before .before .before .before .before .before .before .before .before .pre .0 .1 in
-    ((omega arith, omega arith, omega (arith, c .before .before .before .before .before .before .before .count .ensures, c .before .before .before .before .before .before .before .before .before .before .before .before .before .before .before .before .before .before .before .before .before .before .before .before .before .pre .0 .2), omega (arith, c .before .before .before .before .before .before .count2 .ensures, c .before .before .before .before .before .before .before .before .before .before .before .before .before .before .before .before .before .before .before .before .before .before .before .before .before .pre .0 .3), c .before .before .before .before .before .before .before .before .before .before .before .before .before .before .before .before .before .before .before .before .before .before .before .before .before .pre .0 .4),
-     (has-pieces (c .before .before .before .before .before .before .before .before .before .before .before .before .breaks .result) _ (c .before .before .before .before .before .before .before .before .before .before .before .before .before .before .before .before .before .before .before .before .before .before .before .before .before .args .degree1) (c .before .before .before .before .before .before .before .before .before .before .before .before .before .before .before .before .before .before .before .before .before .before .before .before .before .args .pieces1 .now) (c .before .before .before .before .before .before .before .before .before .before .before .before .breaks .last .1 .1 .1 .0) (breaksOf (c .before .before .before .before .before .before .before .before .before .before .before .before .before .before .before .before .before .before .before .before .before .before .before .before .before .args .q .lo1) (c .before .before .before .before .before .before .before .before .before .before .before .before .before .before .before .before .before .before .before .before .before .before .before .before .before .args .q .hi1) (c .before .before .before .before .before .before .before .before .before .before .before .before .before .before .before .before .before .before .before .before .before .before .before .before .before .args .knots1 .now)) (c .before .before .before .before .before .before .before .before .before .before .before .before .breaks .ensures .0) (c .before .before .before .before .before .before .before .before .before .before .before .before .breaks .ensures .2) (c .before .before .before .before .before .before .before .before .before .before .before .before .breaks .ensures .3) (ap (λ (n : ℕ). n + 1) (c .before .before .before .before .before .before .before .count .ensures)) (c .before .before .before .before .before .before .before .before .before .before .before .before .before .before .before .before .before .before .before .before .before .before .before .before .before .pre .1 .0),
-      has-pieces (c .before .before .before .before .before .before .before .before .before .breaks2 .result) _ (c .before .before .before .before .before .before .before .before .before .before .before .before .before .before .before .before .before .before .before .before .before .before .before .before .before .args .degree2) (c .before .before .before .before .before .before .before .before .before .before .before .before .before .before .before .before .before .before .before .before .before .before .before .before .before .args .pieces2 .now) (c .before .before .before .before .before .before .before .before .before .breaks2 .last .1 .1 .1 .0) (breaksOf (c .before .before .before .before .before .before .before .before .before .before .before .before .before .before .before .before .before .before .before .before .before .before .before .before .before .args .q .lo2) (c .before .before .before .before .before .before .before .before .before .before .before .before .before .before .before .before .before .before .before .before .before .before .before .before .before .args .q .hi2) (c .before .before .before .before .before .before .before .before .before .before .before .before .before .before .before .before .before .before .before .before .before .before .before .before .before .args .knots2 .now)) (c .before .before .before .before .before .before .before .before .before .breaks2 .ensures .0) (c .before .before .before .before .before .before .before .before .before .breaks2 .ensures .2) (c .before .before .before .before .before .before .before .before .before .breaks2 .ensures .3) (ap (λ (n : ℕ). n + 1) (c .before .before .before .before .before .before .count2 .ensures)) (c .before .before .before .before .before .before .before .before .before .before .before .before .before .before .before .before .before .before .before .before .before .before .before .before .before .pre .1 .1)))
+    let l2 = c .before .before .before .before .before .before .before .before .before .before .before .before .before .before .before .before .before .before .before .before .before .before .before .before .before .pre .0 .1 in (
+      (omega arith, omega arith, omega (arith, c .before .before .before .before .before .before .before .count .ensures, c .before .before .before .before .before .before .before .before .before .before .before .before .before .before .before .before .before .before .before .before .before .before .before .before .before .pre .0 .2), omega (arith, c .before .before .before .before .before .before .count2 .ensures, c .before .before .before .before .before .before .before .before .before .before .before .before .before .before .before .before .before .before .before .before .before .before .before .before .before .pre .0 .3), c .before .before .before .before .before .before .before .before .before .before .before .before .before .before .before .before .before .before .before .before .before .before .before .before .before .pre .0 .4),
+      (
+        has-pieces (c .before .before .before .before .before .before .before .before .before .before .before .before .breaks .result) _ (c .before .before .before .before .before .before .before .before .before .before .before .before .before .before .before .before .before .before .before .before .before .before .before .before .before .args .degree1) (c .before .before .before .before .before .before .before .before .before .before .before .before .before .before .before .before .before .before .before .before .before .before .before .before .before .args .pieces1 .now) (c .before .before .before .before .before .before .before .before .before .before .before .before .breaks .last .1 .1 .1 .0) (breaksOf (c .before .before .before .before .before .before .before .before .before .before .before .before .before .before .before .before .before .before .before .before .before .before .before .before .before .args .q .lo1) (c .before .before .before .before .before .before .before .before .before .before .before .before .before .before .before .before .before .before .before .before .before .before .before .before .before .args .q .hi1) (c .before .before .before .before .before .before .before .before .before .before .before .before .before .before .before .before .before .before .before .before .before .before .before .before .before .args .knots1 .now)) (c .before .before .before .before .before .before .before .before .before .before .before .before .breaks .ensures .0) (c .before .before .before .before .before .before .before .before .before .before .before .before .breaks .ensures .2) (c .before .before .before .before .before .before .before .before .before .before .before .before .breaks .ensures .3) (ap (λ (n : ℕ). n + 1) (c .before .before .before .before .before .before .before .count .ensures)) (c .before .before .before .before .before .before .before .before .before .before .before .before .before .before .before .before .before .before .before .before .before .before .before .before .before .pre .1 .0),
+        has-pieces (c .before .before .before .before .before .before .before .before .before .breaks2 .result) _ (c .before .before .before .before .before .before .before .before .before .before .before .before .before .before .before .before .before .before .before .before .before .before .before .before .before .args .degree2) (c .before .before .before .before .before .before .before .before .before .before .before .before .before .before .before .before .before .before .before .before .before .before .before .before .before .args .pieces2 .now) (c .before .before .before .before .before .before .before .before .before .breaks2 .last .1 .1 .1 .0) (breaksOf (c .before .before .before .before .before .before .before .before .before .before .before .before .before .before .before .before .before .before .before .before .before .before .before .before .before .args .q .lo2) (c .before .before .before .before .before .before .before .before .before .before .before .before .before .before .before .before .before .before .before .before .before .before .before .before .before .args .q .hi2) (c .before .before .before .before .before .before .before .before .before .before .before .before .before .before .before .before .before .before .before .before .before .before .before .before .before .args .knots2 .now)) (c .before .before .before .before .before .before .before .before .before .breaks2 .ensures .0) (c .before .before .before .before .before .before .before .before .before .breaks2 .ensures .2) (c .before .before .before .before .before .before .before .before .before .breaks2 .ensures .3) (ap (λ (n : ℕ). n + 1) (c .before .before .before .before .before .before .count2 .ensures)) (c .before .before .before .before .before .before .before .before .before .before .before .before .before .before .before .before .before .before .before .before .before .before .before .before .before .pre .1 .1),
+      ),
+    )
 
 same-length : tie.Need-same-length
 same-length c = search needs

@@ -45,12 +45,13 @@ same-length-4 c = search needs
 
 returns : tie.Need-returns
 returns c =
-    let s = c .before .before .before .before .before .before .before .before .before .before .before .before .before .before .before .before .before .before .before .second-halved .ensures in
-    (c .halved .ensures,
-     c .before .before .before .before .before .before .before .before .before .before .before .before .before .before .before .before .split-net .ensures ∙ ap (λ (b : Bool). slotsAfter (not b) (c .before .before .before .before .before .before .before .before .before .before .before .before .before .before .before .before .before .before .before .before .before .before .before .before .args .st .width1) (c .before .before .before .before .before .before .before .before .before .before .before .before .before .before .before .before .before .before .before .before .before .before .before .before .args .k) (c .before .before .before .before .before .before .before .before .before .before .before .before .before .before .before .before .before .before .before .before .before .before .before .before .args .nets1 .now)) s,
-     c .before .before .before .before .before .before .before .before .before .before .before .split-net2 .ensures ∙ ap (λ (b : Bool). slotsAfter b (c .before .before .before .before .before .before .before .before .before .before .before .before .before .before .before .before .before .before .before .before .before .before .before .before .args .st .width2) (c .before .before .before .before .before .before .before .before .before .before .before .before .before .before .before .before .before .before .before .before .before .before .before .before .args .k) (c .before .before .before .before .before .before .before .before .before .before .before .before .before .before .before .before .before .before .before .before .before .before .before .before .args .nets2 .now)) s,
-     c .before .before .before .before .before .before .before .split-ranges .ensures ∙ ap (λ (b : Bool). rangesAfter b (c .before .before .before .before .before .before .before .before .before .before .before .before .before .before .before .before .before .before .before .before .before .before .before .before .args .k) (c .before .before .before .before .before .before .before .before .before .before .before .before .before .before .before .before .before .before .before .before .before .before .before .before .args .ranges .now)) s,
-     c .before .before .before .deepen .ensures)
+    let s = c .before .before .before .before .before .before .before .before .before .before .before .before .before .before .before .before .before .before .before .second-halved .ensures in (
+      c .halved .ensures,
+      c .before .before .before .before .before .before .before .before .before .before .before .before .before .before .before .before .split-net .ensures ∙ ap (λ (b : Bool). slotsAfter (not b) (c .before .before .before .before .before .before .before .before .before .before .before .before .before .before .before .before .before .before .before .before .before .before .before .before .args .st .width1) (c .before .before .before .before .before .before .before .before .before .before .before .before .before .before .before .before .before .before .before .before .before .before .before .before .args .k) (c .before .before .before .before .before .before .before .before .before .before .before .before .before .before .before .before .before .before .before .before .before .before .before .before .args .nets1 .now)) s,
+      c .before .before .before .before .before .before .before .before .before .before .before .split-net2 .ensures ∙ ap (λ (b : Bool). slotsAfter b (c .before .before .before .before .before .before .before .before .before .before .before .before .before .before .before .before .before .before .before .before .before .before .before .before .args .st .width2) (c .before .before .before .before .before .before .before .before .before .before .before .before .before .before .before .before .before .before .before .before .before .before .before .before .args .k) (c .before .before .before .before .before .before .before .before .before .before .before .before .before .before .before .before .before .before .before .before .before .before .before .before .args .nets2 .now)) s,
+      c .before .before .before .before .before .before .before .split-ranges .ensures ∙ ap (λ (b : Bool). rangesAfter b (c .before .before .before .before .before .before .before .before .before .before .before .before .before .before .before .before .before .before .before .before .before .before .before .before .args .k) (c .before .before .before .before .before .before .before .before .before .before .before .before .before .before .before .before .before .before .before .before .before .before .before .before .args .ranges .now)) s,
+      c .before .before .before .deepen .ensures,
+    )
 
 pub halve-spec : {M : Type 1} → statement M
 halve-spec =

@@ -21,8 +21,8 @@ question-at-requires c κs = c .before .before .before .before .walk .ensures .1
 
 answer-first-requires : tie.Need-answer-first-requires
 answer-first-requires c κs =
-      let i = c .before .before .before .before .before .before .walk .ensures .1 (c .before .before .before .before .if1 .left) in
-      (c .before .before .before .before .before .before .before .before .before .pre, short (c .before .before .before .before .before .before .before .before .before .args .s .now) (c .before .before .before .before .before .before .walk .result) (c .before .before .before .before .if1 .left) (c .before .before .before .before .before .before .walk .ensures .0), i .first, i .second)
+    let i = c .before .before .before .before .before .before .walk .ensures .1 (c .before .before .before .before .if1 .left) in
+    (c .before .before .before .before .before .before .before .before .before .pre, short (c .before .before .before .before .before .before .before .before .before .args .s .now) (c .before .before .before .before .before .before .walk .result) (c .before .before .before .before .if1 .left) (c .before .before .before .before .before .before .walk .ensures .0), i .first, i .second)
 
 same-length-2 : tie.Need-same-length-2
 same-length-2 c = search needs

@@ -49,8 +49,8 @@ loop-less c = search needs
 
 loop-again : tie.Need-loop-again Inv-loop μ-loop
 loop-again c =
-      let t = regions-turn (c .before .before .before .before .before .before .before .before .before .args .out .now) (c .before .before .before .before .before .before .before .before .before .args .at) (c .before .before .before .before .before .before .before .before .before .args .list .now) (c .before .before .before .before .before .before .loop .k) (c .before .before .before .before .before .before .before .before .before .args .n) (search needs) (search needs) (search needs) (c .before .before .before .before .before .before .loop .inv .2) (c .before .before .before .before .before .before .loop .inv .3) (c .before .before .put-region .ensures) in
-      (search needs, search needs, t .0, t .1)
+    let t = regions-turn (c .before .before .before .before .before .before .before .before .before .args .out .now) (c .before .before .before .before .before .before .before .before .before .args .at) (c .before .before .before .before .before .before .before .before .before .args .list .now) (c .before .before .before .before .before .before .loop .k) (c .before .before .before .before .before .before .before .before .before .args .n) (search needs) (search needs) (search needs) (c .before .before .before .before .before .before .loop .inv .2) (c .before .before .before .before .before .before .loop .inv .3) (c .before .before .put-region .ensures) in
+    (search needs, search needs, t .0, t .1)
 
 same-length : tie.Need-same-length Inv-loop μ-loop
 same-length c = search needs
