@@ -1,5 +1,5 @@
 """The papers and the repository agree: each crate stands in docs/ARCHITECTURE.md, each must-fail edit has its two lines and fits its file once,
-definitions stand in specs/ and proofs in proofs/, and no paper names a package host."""
+every name in docs/COVERAGE.md is there, and no paper names a package host."""
 import pathlib
 import re
 import sys
@@ -33,6 +33,18 @@ for edit in sorted(ROOT.glob("crates/*/must-fail/*.edit")):
             bad.append(f"{edit}: its old line occurs {source.count(old)} times in {file}")
         if old == new:
             bad.append(f"{edit}: changes nothing")
+texts = "\n".join(p.read_text() for p in ROOT.glob("crates/**/*") if p.suffix in {".rt", ".antt"})
+words = set(re.findall(r"[^\s(){},;.:`]+", texts)) | set(crates) | {p.stem for p in ROOT.glob("crates/*/must-fail/*.edit")}
+for name in re.findall(r"`([^`]+)`", (ROOT / "docs/COVERAGE.md").read_text()):
+    head, _, rest = name.partition("/")
+    if head in crates and rest:
+        found = (ROOT / f"crates/{name}.antt").exists() or (ROOT / f"crates/{head}/must-fail/{rest}.edit").exists() or (ROOT / "crates" / name).exists()
+    elif "/" in name or name.endswith(".md"):
+        found = bool(list(ROOT.glob(name)))
+    else:
+        found = all(part in words or (ROOT / part).exists() for part in re.split(r"::|\.|\s+", name.strip(".")) if re.fullmatch(r"[\w'-]+", part))
+    if not found and name not in {"crates/", "ensures", "x::f"}:
+        bad.append(f"docs/COVERAGE.md names {name}, which is nowhere")
 for paper in ["README.md", *sorted(str(p.relative_to(ROOT)) for p in ROOT.glob("docs/*.md"))]:
     text = (ROOT / paper).read_text()
     if re.search(r"https?://", text):

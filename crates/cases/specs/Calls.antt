@@ -11,7 +11,7 @@ use Rattle.regions.specs.Reports.{wordNumber}
 use Rattle.states.specs.States.{Memory, Sizes}
 use Rattle.search.specs.declared.Stepped.the-variants.{Next, Ended, NoRoom}
 use Rattle.search.specs.declared.Own.the-variants.{Is, Ended as OwnEnded, NoRoom as OwnNoRoom}
-use Rattle.search.specs.Nets.{geometry}
+use Rattle.nodes.specs.Nets.{geometry}
 use Rattle.report.specs.declared.Reported.the-variants.{Told, Running, NoRoom as ReportNoRoom}
 use Rattle.opening.specs.declared.Opened.{Opened}
 use Rattle.opening.specs.declared.Opened.the-variants.{Open, BadLine, BadQuestion, NoRoom as OpenNoRoom}

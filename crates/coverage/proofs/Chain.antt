@@ -21,7 +21,7 @@ use Rattle.regions.specs.Reports.{wordFor, reportSlice}
 use Rattle.states.specs.declared.State.{State}
 use Rattle.search.specs.declared.Own.{Own}
 use Rattle.search.specs.declared.Own.the-variants.{Is, Ended as OwnEnded, NoRoom as OwnNoRoom}
-use Rattle.search.specs.Geometry.{regionFor, regionOf}
+use Rattle.nodes.specs.Geometry.{regionFor, regionOf}
 use Rattle.states.specs.States.{Memory, memory, Sizes, sizes, needed, enough, enoughOwn, isSearch}
 use Rattle.search.specs.Steps.{stepDef, judgeAt, ownDef}
 use Rattle.report.specs.declared.Reported.the-variants.{Told, Running, NoRoom as ReportNoRoom}

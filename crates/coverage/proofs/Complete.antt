@@ -25,8 +25,8 @@ use Rattle.states.specs.States.{Memory, Sizes, sizes, needed, enough, enoughOwn
 use Rattle.search.specs.declared.Stepped.{Stepped}
 use Rattle.search.specs.declared.Stepped.the-variants.{Next}
 use Rattle.search.specs.declared.Own.the-variants.{Is}
-use Rattle.search.specs.Geometry.{Geometry}
-use Rattle.search.specs.Nets.{geometry}
+use Rattle.nodes.specs.Geometry.{Geometry}
+use Rattle.nodes.specs.Nets.{geometry}
 use Rattle.search.specs.Steps.{Stepping, stepping, stepDef, ownDef}
 use Rattle.search.specs.Runs.{carriedOut, ownStepDef, turned, runFor, runDef}
 use Rattle.report.specs.declared.Reported.{Reported}

@@ -33,7 +33,7 @@ use Rattle.states.specs.declared.State.{State}
 use Rattle.search.specs.declared.Stepped.the-variants.{Next, Ended, NoRoom}
 use Rattle.search.specs.declared.Own.{Own}
 use Rattle.search.specs.declared.Own.the-variants.{Is, Ended as OwnEnded, NoRoom as OwnNoRoom}
-use Rattle.search.specs.Geometry.{regionOf}
+use Rattle.nodes.specs.Geometry.{regionOf}
 use Rattle.states.specs.States.{Memory, Sizes, sizes, needed, enough}
 use Rattle.search.specs.Steps.{halves}
 use Rattle.report.specs.declared.Reported.the-variants.{Told, Running, NoRoom as ReportNoRoom}

@@ -21,10 +21,11 @@ use Rattle.regions.specs.declared.Region.{Region}
 use Rattle.regions.specs.Regions.{flat, flats}
 use Rattle.states.specs.declared.State.{State}
 use Rattle.search.specs.declared.Stepped.the-variants.{Next, Ended, NoRoom}
-use Rattle.search.specs.Geometry.{regionOf}
+use Rattle.nodes.specs.Geometry.{regionOf}
 use Rattle.states.specs.States.{Memory, memory, Sizes, sizes, needed, enough, enoughOwn, topDepth, isZero, topFits, isSearch, over, countsOf, depthAt}
 use Rattle.search.specs.Steps.{part1, part2}
-use Rattle.search.specs.Steps.{Stepping, stepping, givenState, halves, splitMemory, giveUpAt, divideAt, actOn, stepDef}
+use Rattle.nodes.specs.Moves.{givenState}
+use Rattle.search.specs.Steps.{Stepping, stepping, halves, splitMemory, giveUpAt, divideAt, actOn, stepDef}
 use Rattle.coverage.specs.Calls.{step, own, stepped, Outcome, after, lend, giveBack, stepOutcome}
 use Rattle.opening.specs.Asked.{Asked, shape, pairsOf, start, stateOf, tally, depthOf}
 use Rattle.coverage.specs.Rules.{Ruled, lent, suffices}

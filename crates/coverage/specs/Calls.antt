@@ -7,7 +7,7 @@ use Rattle.states.specs.declared.State.{State}
 use Rattle.search.specs.declared.Stepped.{Stepped}
 use Rattle.search.specs.declared.Stepped.the-variants.{Next, Ended, NoRoom}
 use Rattle.search.specs.declared.Own.{Own}
-use Rattle.search.specs.Geometry.{Geometry}
+use Rattle.nodes.specs.Geometry.{Geometry}
 use Rattle.states.specs.States.{Memory, Sizes}
 use Rattle.search.specs.Steps.{Stepping, stepDef, ownDef}
 use Rattle.report.specs.declared.Reported.{Reported}

@@ -19,7 +19,7 @@ use Rattle.regions.specs.Regions.{merging, flats}
 use Rattle.states.specs.declared.Counts.{Counts}
 use Rattle.floats.specs.Stations.{InRange, Piece, Cut}
 use Rattle.regions.specs.Stations.{InRegion}
-use Rattle.search.specs.Geometry.{regionOf}
+use Rattle.nodes.specs.Geometry.{regionOf}
 use Rattle.states.specs.States.{Memory}
 use Rattle.report.specs.declared.Reported.{Reported}
 use Rattle.report.specs.declared.Reported.the-variants.{Told, Running, NoRoom}

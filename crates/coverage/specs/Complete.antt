@@ -17,7 +17,7 @@ use Rattle.states.specs.declared.State.{State}
 use Rattle.states.specs.declared.Counts.{Counts}
 use Rattle.states.specs.States.{Memory, over}
 use Rattle.search.specs.declared.Stepped.the-variants.{Next}
-use Rattle.search.specs.Nets.{geometry}
+use Rattle.nodes.specs.Nets.{geometry}
 use Rattle.search.specs.Steps.{Stepping}
 use Rattle.search.specs.Runs.{runDef}
 use Rattle.report.specs.declared.Reported.the-variants.{Told}

@@ -6,7 +6,7 @@ use lib.Ieee.{Float}
 use Rattle.facts.specs.Faults.{Question}
 use Rattle.states.specs.declared.State.{State}
 use Rattle.states.specs.States.{Memory, sizes}
-use Rattle.search.specs.Nets.{geometry}
+use Rattle.nodes.specs.Nets.{geometry}
 use Rattle.opening.specs.declared.Opened.the-variants.{Open}
 use Rattle.opening.specs.Asked.{start}
 use Rattle.opening.specs.Opens.{searchFor, openDef}

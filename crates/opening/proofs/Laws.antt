@@ -25,7 +25,7 @@ use Rattle.pairs.specs.Nodes.{HasPieces}
 use Rattle.pairs.specs.Pairs.{Pieces, pieces, pairsFrom, nets1Of, nets2Of, rangesOf, depthsOf}
 use Rattle.states.specs.declared.State.{State}
 use Rattle.states.specs.States.{Memory, memory, Sizes, sizes, needed, enough}
-use Rattle.search.proofs.Tests.{and-first, and-second, room-all}
+use Rattle.states.proofs.Tests.{and-first, and-second, room-all}
 use Rattle.opening.specs.declared.Opened.{Opened}
 use Rattle.opening.specs.declared.Opened.the-variants.{Open, BadLine, BadQuestion, NoRoom}
 use Rattle.opening.specs.Asked.{pushedPairs, start, stateOf}

@@ -20,8 +20,8 @@ use Rattle.facts.proofs.Cover.{piece-at}
 use Rattle.pairs.specs.Pairs.{Pair, Pieces, pieces, netAt, boxAt, rowFrom, pairsFrom, joined, rangesAt, nets1Of, nets2Of, rangesOf, depthsOf}
 use Rattle.machine.specs.Machine.{Node, atPieces, row, pushed}
 use Rattle.states.specs.States.{Memory, memory}
-use Rattle.search.specs.Geometry.{floats}
-use Rattle.search.specs.Nets.{geometry}
+use Rattle.nodes.specs.Geometry.{floats}
+use Rattle.nodes.specs.Nets.{geometry}
 use Rattle.opening.specs.Asked.{Asked, shape, pieces1, pieces2, pushedPairs, pairsOf, concat, netOf1, netOf2, rangesOf as nodeRanges, depthOf, openMemory}
 use Rattle.opening.specs.Opens.{searchFor, piecesIn}
 

@@ -10,7 +10,7 @@ use Rattle.regions.specs.declared.Region.{Region}
 use Rattle.states.specs.declared.State.{State}
 use Rattle.states.specs.declared.Counts.{Counts}
 use Rattle.floats.specs.Stations.{InRange, Piece, Cut, piecesFrom}
-use Rattle.search.specs.Geometry.{Geometry, floats, regionOf}
+use Rattle.nodes.specs.Geometry.{Geometry, floats, regionOf}
 use Rattle.states.specs.States.{Memory}
 
 -- for each line the asked range and its pieces; the gap, the splits per pair, and the widths of the nets

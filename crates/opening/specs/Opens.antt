@@ -19,7 +19,7 @@ use Rattle.facts.specs.Cover.{cutsOf}
 use Rattle.states.specs.declared.State.{State}
 use Rattle.pairs.specs.Pairs.{Pieces, pairsFrom, nets1Of, nets2Of, rangesOf, depthsOf}
 use Rattle.states.specs.States.{Memory, memory, sizes, needed, enough}
-use Rattle.search.specs.Nets.{geometry}
+use Rattle.nodes.specs.Nets.{geometry}
 use Rattle.opening.specs.declared.Question.{Question as Asking}
 use Rattle.opening.specs.declared.Opened.{Opened}
 use Rattle.opening.specs.declared.Opened.the-variants.{Open, BadLine, BadQuestion, NoRoom}

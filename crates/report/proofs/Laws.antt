@@ -21,8 +21,8 @@ use Rattle.regions.proofs.Laws.{flats-length}
 use Rattle.states.specs.declared.State.{State}
 use Rattle.states.specs.declared.Counts.{Counts}
 use Rattle.states.specs.States.{Memory, memory, Sizes, sizes, needed, enough, topFits, searchWith, isSearch, over, countsOf}
-use Rattle.search.specs.Geometry.{Geometry}
-use Rattle.search.proofs.Tests.{and-first, and-second, slots-fit, room-all}
+use Rattle.nodes.specs.Geometry.{Geometry}
+use Rattle.states.proofs.Tests.{and-first, and-second, slots-fit, room-all}
 use Rattle.report.specs.declared.Reported.{Reported}
 use Rattle.report.specs.declared.Reported.the-variants.{Told, Running, NoRoom}
 use Rattle.report.specs.Reports.{Reporting, reporting, slotRegion, leftRegions, rawAfter, writeReport, reportDef}

@@ -6,7 +6,7 @@ ghost use lib.ListN.{length};
 ghost use Rattle.lists.specs.Parts.{patch};
 ghost use Rattle.regions.specs.Regions.{flats};
 ghost use Rattle.states.specs.States.{memory};
-ghost use Rattle.search.specs.Nets.{geometry};
+ghost use Rattle.nodes.specs.Nets.{geometry};
 ghost use Rattle.report.specs.Reports.{Reporting, reporting, slotRegion, leftRegions, reportDef};
 use regions::Region;
 use regions::Word;
@@ -33,7 +33,7 @@ fn slot_region<'a>(
 {
     let a = boxes::net_box(nets::net_of(nets1, nets2, 1, k, st.width1 as usize));
     let b = boxes::net_box(nets::net_of(nets1, nets2, 2, k, st.width2 as usize));
-    search::region_of(a, b, ranges, k)
+    nodes::region_of(a, b, ranges, k)
 }
 
 // The regions of the nodes left, behind those given up.

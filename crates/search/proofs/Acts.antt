@@ -21,10 +21,11 @@ use Rattle.regions.specs.Regions.{flat}
 use Rattle.states.specs.declared.State.{State}
 use Rattle.states.specs.States.{Memory, memory, depthAt}
 use Rattle.search.specs.declared.Stepped.the-variants.{Next}
-use Rattle.search.specs.Geometry.{regionWith}
-use Rattle.search.specs.Nets.{bothBoxes, geometry}
-use Rattle.search.specs.Steps.{Stepping, stepping, part1, part2, settledState, givenState, stoppedState, halvedState, halves, splitMemory, giveUpAt, divideAt, actOn}
-use Rattle.search.specs.Writes.{slotsAfter, rangesHalved, rangesAfter, depthsAfter}
+use Rattle.nodes.specs.Geometry.{regionWith}
+use Rattle.nodes.specs.Nets.{bothBoxes, geometry}
+use Rattle.nodes.specs.Moves.{settledState, givenState, stoppedState, halvedState}
+use Rattle.search.specs.Steps.{Stepping, stepping, part1, part2, halves, splitMemory, giveUpAt, divideAt, actOn}
+use Rattle.nodes.specs.Writes.{slotsAfter, rangesHalved, rangesAfter, depthsAfter}
 
 -- ---- the nets of a split
 points-of : (w : ℕ) (l : List Float) → length l ≡ 4 * w → length l / 4 ≡ w

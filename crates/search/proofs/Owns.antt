@@ -10,10 +10,11 @@ use Rattle.states.specs.declared.State.{State}
 use Rattle.states.specs.States.{Memory, Sizes, sizes, needed, enough, enoughOwn, isSearch, over}
 use Rattle.search.specs.declared.Stepped.the-variants.{Next, Ended, NoRoom}
 use Rattle.search.specs.declared.Own.the-variants.{Is, Ended as OwnEnded, NoRoom as OwnNoRoom}
-use Rattle.search.specs.Geometry.{Geometry}
+use Rattle.nodes.specs.Geometry.{Geometry}
 use Rattle.search.specs.Steps.{Stepping, stepping, judgeAt, stepDef, ownDef}
 use Rattle.search.specs.Runs.{carriedOut, ownStepDef}
-use Rattle.search.proofs.Tests.{waits, room-all, own-judged}
+use Rattle.states.proofs.Tests.{waits, room-all}
+use Rattle.search.proofs.Tests.{own-judged}
 
 enough-own : (x : State) (s : Sizes) → enough (needed x) s ≡ true → enoughOwn (needed x) s ≡ true
 enough-own x s e = let r = room-all x s e in rw (le-leb _ _ (r .nets1), le-leb _ _ (r .nets2), le-leb _ _ (r .depths)) refl

@@ -16,10 +16,11 @@ use Rattle.search.specs.declared.Stepped.{Stepped}
 use Rattle.search.specs.declared.Stepped.the-variants.{Next, Ended, NoRoom}
 use Rattle.search.specs.declared.Own.{Own}
 use Rattle.search.specs.declared.Own.the-variants.{Is, Ended as OwnEnded, NoRoom as OwnNoRoom}
-use Rattle.search.specs.Geometry.{Geometry}
-use Rattle.search.specs.Steps.{Stepping, stepping, part1, part2, settledState, givenState, stoppedState, halvedState, divideAt, actOn, stepDef, judgeAt, ownDef}
+use Rattle.nodes.specs.Geometry.{Geometry}
+use Rattle.nodes.specs.Moves.{settledState, givenState, stoppedState, halvedState}
+use Rattle.search.specs.Steps.{Stepping, stepping, part1, part2, divideAt, actOn, stepDef, judgeAt, ownDef}
 use Rattle.search.specs.Runs.{carriedOut, ownStepDef, turned, runFor, runDef}
-use Rattle.search.proofs.Tests.{waits}
+use Rattle.states.proofs.Tests.{waits}
 
 -- ---- what is left to do falls with each step, or the search stops
 abbrev pub left : State → ℕ

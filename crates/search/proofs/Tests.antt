@@ -12,92 +12,14 @@ use Rattle.lists.specs.Parts.{block}
 use Rattle.verdicts.specs.declared.Verdict.{Verdict}
 use Rattle.states.specs.declared.State.{State}
 use Rattle.states.specs.States.{Memory, Sizes, sizes, needed, enough, enoughOwn, depthAt, topFits, searchWith, topDepth, isSearch, isZero, over}
+use Rattle.states.proofs.Tests.{waits, sound, slots-fit, room-all}
 use Rattle.search.specs.declared.Stepped.the-variants.{Next, Ended, NoRoom}
 use Rattle.search.specs.declared.Own.the-variants.{Is, Ended as OwnEnded, NoRoom as OwnNoRoom}
-use Rattle.search.specs.Geometry.{Geometry}
+use Rattle.nodes.specs.Geometry.{Geometry}
 use Rattle.search.specs.Steps.{Stepping, stepping, part1, part2, actOn, stepDef, judgeAt, ownDef}
-use Rattle.search.specs.Writes.{Room, Above}
-
--- ---- both halves of a test
-pub and-first : (a b : Bool) → a && b ≡ true → a ≡ true
-and-first true b e = refl
-and-first false b e = e
-
-pub and-second : (a b : Bool) → a && b ≡ true → b ≡ true
-and-second true b e = e
-and-second false b e = absurd (false≢true e)
-
--- ---- a search that hasn't ended
-or-first : (a b : Bool) → a || b ≡ false → a ≡ false
-or-first true b e = e
-or-first false b e = refl
-
-or-second : (a b : Bool) → a || b ≡ false → b ≡ false
-or-second true b e = absurd (true≢false e)
-or-second false b e = e
-
-zero-no : (n : ℕ) → isZero n ≡ false → 1 ≤ n
-zero-no zero e = absurd (true≢false e)
-zero-no (suc n) e = omega arith
-
-pub waits : (x : State) → over x ≡ false → 1 ≤ x .waiting
-waits x e = zero-no (x .waiting) (or-second (x .stopped) (isZero (x .waiting)) e)
-
--- ---- what the five tests say
-pub record Sound (x : State) (d : ℕ) : Type 0 where
-  pub top : x .waiting ≤ x .pairs + d
-  pub deep : d ≤ 64
-  pub balance : x .pairs + x .splits ≡ x .settled + x .given + x .waiting
-  pub allowance : x .splits + x .unspent ≡ x .quota * x .pairs
-  pub seen : x .visits ≤ x .splits + x .settled + x .given + 1
-
-top-is : (P n d : ℕ) → 1 ≤ n → topFits P n d ≡ true → (n ≤ P + d) × (d ≤ 64)
-top-is P zero d h e = absurd (omega arith)
-top-is P (suc n) d h e = (leb-true (suc n) (P + d) (and-first (leb (suc n) (P + d)) (leb d 64) e), leb-true d 64 (and-second (leb (suc n) (P + d)) (leb d 64) e))
-
-pub sound : (x : State) (d : ℕ) → 1 ≤ x .waiting → searchWith x d ≡ true → Sound x d
-sound x d h e =
-    let b1 = topFits (x .pairs) (x .waiting) d in
-    let b2 = eqb (x .pairs + x .splits) (x .settled + x .given + x .waiting) in
-    let b3 = eqb (x .splits + x .unspent) (x .quota * x .pairs) in
-    let b4 = leb (x .visits) (x .splits + x .settled + x .given + 1) in
-    let e2 = and-second b1 (b2 && (b3 && b4)) e in
-    let e3 = and-second b2 (b3 && b4) e2 in
-    let t = top-is (x .pairs) (x .waiting) d h (and-first b1 (b2 && (b3 && b4)) e) in
-    record {
-      top = t .0;
-      deep = t .1;
-      balance = eqb-true _ _ (and-first b2 (b3 && b4) e2);
-      allowance = eqb-true _ _ (and-first b3 b4 e3);
-      seen = leb-true _ _ (and-second b3 b4 e3);
-    }
-
--- slots of n numbers: so many fit as nodes wait, of a list with room for P + 64
-pub slots-fit : (P k n len : ℕ) → k ≤ P + 64 → (P + 64) * n ≤ len → k * n ≤ len
-slots-fit P k n len h r = le-trans (mul-le-mul-right n h) r
+use Rattle.nodes.specs.Writes.{Room, Above}
 
 -- ---- the own verdict
-pub record RoomOwn (x : State) (s : Sizes) : Type 0 where
-  pub nets1 : (x .pairs + 64) * (4 * x .width1) ≤ s .nets1
-  pub nets2 : (x .pairs + 64) * (4 * x .width2) ≤ s .nets2
-
-pub room-own : (x : State) (s : Sizes) → enoughOwn (needed x) s ≡ true → RoomOwn x s
-room-own x s e =
-    let b1 = leb ((x .pairs + 64) * (4 * x .width1)) (s .nets1) in
-    let b2 = leb ((x .pairs + 64) * (4 * x .width2)) (s .nets2) in
-    let b3 = leb ((x .pairs + 64) * 1) (s .depths) in
-    record {
-      nets1 = leb-true _ _ (and-first b1 (b2 && b3) e);
-      nets2 = leb-true _ _ (and-first b2 b3 (and-second b1 (b2 && b3) e));
-    }
-
-pub top-slot : (x : State) (d n len : ℕ) → over x ≡ false → searchWith x d ≡ true → (x .pairs + 64) * n ≤ len → (x .waiting - 1 + 1) * n ≤ len
-top-slot x d n len o e r =
-    let w = waits x o in
-    let s = sound x d w e in
-    let k : x .waiting - 1 + 1 ≤ x .pairs + 64 = (let a = s .top in let b = s .deep in omega arith) in
-    slots-fit (x .pairs) (x .waiting - 1 + 1) n len k r
-
 module _ (G : Geometry) (x : State) (u : Memory) where
   pub own-ended : over x ≡ true → OwnEnded ≡ ownDef G x u
   own-ended o = rw o refl
@@ -117,31 +39,6 @@ module _ (G : Geometry) (x : State) (u : Memory) where
       go (suc k) w h = let e : suc k - 1 ≡ k = omega arith in ap Is (rw e at h)
 
 -- ---- a step
-pub record RoomAll (x : State) (s : Sizes) : Type 0 where
-  pub nets1 : (x .pairs + 64) * (4 * x .width1) ≤ s .nets1
-  pub nets2 : (x .pairs + 64) * (4 * x .width2) ≤ s .nets2
-  pub ranges : (x .pairs + 64) * 4 ≤ s .ranges
-  pub depths : (x .pairs + 64) * 1 ≤ s .depths
-  pub raw : x .pairs * suc (x .quota) * 10 ≤ s .raw
-
-pub room-all : (x : State) (s : Sizes) → enough (needed x) s ≡ true → RoomAll x s
-room-all x s e =
-    let b1 = leb ((x .pairs + 64) * (4 * x .width1)) (s .nets1) in
-    let b2 = leb ((x .pairs + 64) * (4 * x .width2)) (s .nets2) in
-    let b3 = leb ((x .pairs + 64) * 4) (s .ranges) in
-    let b4 = leb ((x .pairs + 64) * 1) (s .depths) in
-    let b5 = leb (x .pairs * suc (x .quota) * 10) (s .raw) in
-    let e2 = and-second b1 (b2 && (b3 && (b4 && b5))) e in
-    let e3 = and-second b2 (b3 && (b4 && b5)) e2 in
-    let e4 = and-second b3 (b4 && b5) e3 in
-    record {
-      nets1 = leb-true _ _ (and-first b1 (b2 && (b3 && (b4 && b5))) e);
-      nets2 = leb-true _ _ (and-first b2 (b3 && (b4 && b5)) e2);
-      ranges = leb-true _ _ (and-first b3 (b4 && b5) e3);
-      depths = leb-true _ _ (and-first b4 b5 e4);
-      raw = leb-true _ _ (and-second b4 b5 e4);
-    }
-
 -- an accepted step has room; the two bounds are those of the state's 16-bit fields
 pub room : (x : State) (d : ℕ) (s : Sizes) → x .pairs ≤ 65535 → x .quota ≤ 65535 → over x ≡ false → enough (needed x) s ≡ true → searchWith x d ≡ true → Room x (x .waiting - 1) d s
 room x d s hp hq o e f =
@@ -189,10 +86,3 @@ module _ (G : Geometry) (x : State) (u : Memory) (v : Verdict) where
 
   pub step-accepted : (r : Stepping) (k : ℕ) → over x ≡ false → enough (needed x) (sizes u) ≡ true → isSearch x u ≡ true → x .waiting ≡ suc k → r ≡ actOn G (suc k) v x u → r ≡ stepDef G x u v
   step-accepted r k o e s t h = h ∙ ap (λ (n : ℕ). actOn G n v x u) (sym t) ∙ rw (o, e, s) refl
-
-pub top-depth-at : (n : ℕ) (l : List ℕ) → 1 ≤ n → topDepth n l ≡ depthAt l (n - 1)
-top-depth-at zero l h = absurd (omega arith)
-top-depth-at (suc n) l h = let e : suc n - 1 ≡ n = omega arith in rw e refl
-
-pub one-more : (n : ℕ) → 1 ≤ n → n ≡ suc (n - 1)
-one-more n h = omega arith

@@ -16,7 +16,8 @@ use Rattle.search.specs.declared.Stepped.{Stepped}
 use Rattle.search.specs.declared.Stepped.the-variants.{Next, Ended, NoRoom}
 use Rattle.search.specs.declared.Own.{Own}
 use Rattle.search.specs.declared.Own.the-variants.{Is, Ended as OwnEnded, NoRoom as OwnNoRoom}
-use Rattle.search.specs.Geometry.{Geometry, lowerHalf, upperHalf, regionFor}
+use Rattle.nodes.specs.Geometry.{Geometry, lowerHalf, upperHalf, regionFor}
+use Rattle.nodes.specs.Moves.{settledState, givenState, stoppedState, halvedState}
 use Rattle.states.specs.States.{Memory, sizes, needed, enough, enoughOwn, depthAt, isSearch, over}
 
 -- the paper's number for each answer, 0 for one that is no refusal
@@ -44,72 +45,6 @@ part1 x u k = record { lo = getD (block 4 k (u .ranges)) 0 nan; hi = getD (block
 
 abbrev pub part2 : State → Memory → ℕ → Piece
 part2 x u k = record { lo = getD (block 4 k (u .ranges)) 2 nan; hi = getD (block 4 k (u .ranges)) 3 nan; net = block (4 * x .width2) k (u .nets2) }
-
--- ---- the state after a node, k below it, is settled, given up, kept at no allowance, or halved
-abbrev pub settledState : ℕ → State → State
-settledState k x = record {
-  pairs = x .pairs;
-  quota = x .quota;
-  waiting = k;
-  visits = suc (x .visits);
-  splits = x .splits;
-  unspent = x .unspent;
-  settled = suc (x .settled);
-  given = x .given;
-  width1 = x .width1;
-  width2 = x .width2;
-  gap = x .gap;
-  stopped = x .stopped;
-}
-
-abbrev pub givenState : ℕ → State → State
-givenState k x = record {
-  pairs = x .pairs;
-  quota = x .quota;
-  waiting = k;
-  visits = suc (x .visits);
-  splits = x .splits;
-  unspent = x .unspent;
-  settled = x .settled;
-  given = suc (x .given);
-  width1 = x .width1;
-  width2 = x .width2;
-  gap = x .gap;
-  stopped = x .stopped;
-}
-
-abbrev pub stoppedState : State → State
-stoppedState x = record {
-  pairs = x .pairs;
-  quota = x .quota;
-  waiting = x .waiting;
-  visits = suc (x .visits);
-  splits = x .splits;
-  unspent = zero;
-  settled = x .settled;
-  given = x .given;
-  width1 = x .width1;
-  width2 = x .width2;
-  gap = x .gap;
-  stopped = true;
-}
-
--- s is the allowance left after it
-abbrev pub halvedState : ℕ → ℕ → State → State
-halvedState k s x = record {
-  pairs = x .pairs;
-  quota = x .quota;
-  waiting = suc (suc k);
-  visits = suc (x .visits);
-  splits = suc (x .splits);
-  unspent = s;
-  settled = x .settled;
-  given = x .given;
-  width1 = x .width1;
-  width2 = x .width2;
-  gap = x .gap;
-  stopped = x .stopped;
-}
 
 -- ---- the memory after it
 -- the region goes to 10 × the given count before it

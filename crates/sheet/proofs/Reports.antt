@@ -16,9 +16,9 @@ use Rattle.regions.proofs.Laws.{regions-length}
 use Rattle.states.specs.declared.State.{State}
 use Rattle.states.specs.declared.Counts.{Counts}
 use Rattle.states.specs.States.{Memory, memory, sizes, needed, enough, topDepth, isSearch, over}
-use Rattle.search.specs.Geometry.{Geometry}
-use Rattle.search.specs.Nets.{geometry}
-use Rattle.search.proofs.Tests.{and-first, and-second}
+use Rattle.nodes.specs.Geometry.{Geometry}
+use Rattle.nodes.specs.Nets.{geometry}
+use Rattle.states.proofs.Tests.{and-first, and-second}
 use Rattle.search.specs.declared.Stepped.{Stepped}
 use Rattle.search.specs.Steps.{Stepping, stepping}
 use Rattle.search.specs.Runs.{runDef}
@@ -29,9 +29,9 @@ use Rattle.report.specs.declared.Reported.{Reported}
 use Rattle.report.specs.declared.Reported.the-variants.{Told, Running, NoRoom}
 use Rattle.report.specs.Reports.{Reporting, reporting, rawAfter, writeReport, reportDef}
 use Rattle.report.proofs.Laws.{room-left}
-use Rattle.sheet.specs.Printed.{countLine, regionLines, refusalLine}
+use Rattle.printing.specs.Printed.{countLine, regionLines, refusalLine}
 use Rattle.sheet.specs.Answers.{zeros, zeroDepths, reportedText, reportText, steppedText, searchText, openedText, linesText}
-use Rattle.sheet.proofs.Laws.{Wrote, joined}
+use Rattle.printing.proofs.Laws.{Wrote, joined}
 
 -- ---- the regions told are as few as the report slice holds
 abbrev toldOf : Reported → ℕ

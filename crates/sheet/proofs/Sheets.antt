@@ -19,9 +19,9 @@ use Rattle.walks.proofs.Laws.{floats-length, words-length}
 use Rattle.walks.proofs.Walks.{on, off}
 use Rattle.opening.specs.declared.Question.{Question as Asking}
 use Rattle.opening.specs.Opens.{lineOf, questionOf}
-use Rattle.sheet.specs.Printed.{refusalLine}
+use Rattle.printing.specs.Printed.{refusalLine}
 use Rattle.sheet.specs.Answers.{lineIn, askingAt, linesText, walkedText, answerOf}
-use Rattle.sheet.proofs.Laws.{Wrote}
+use Rattle.printing.proofs.Laws.{Wrote}
 
 -- ---- the front of an array that a list was read into
 front : {A : Type 0} (room vs : List A) (k : ℕ) → length vs ≡ k → take k (patch room 0 vs) ≡ vs

@@ -12,7 +12,7 @@ use Rattle.states.specs.declared.State.{State}
 use Rattle.states.specs.States.{Memory, memory}
 use Rattle.search.specs.declared.Stepped.{Stepped}
 use Rattle.search.specs.declared.Stepped.the-variants.{Next, Ended, NoRoom}
-use Rattle.search.specs.Nets.{geometry}
+use Rattle.nodes.specs.Nets.{geometry}
 use Rattle.search.specs.Steps.{steppedNumber}
 use Rattle.search.specs.Runs.{runDef}
 use Rattle.report.specs.declared.Reported.{Reported}
@@ -22,7 +22,7 @@ use Rattle.opening.specs.declared.Question.{Question as Asking}
 use Rattle.opening.specs.declared.Opened.{Opened}
 use Rattle.opening.specs.declared.Opened.the-variants.{Open, BadLine, BadQuestion, NoRoom as NoOpenRoom}
 use Rattle.opening.specs.Opens.{openedNumber, openedLine, lineOf, openDef}
-use Rattle.sheet.specs.Printed.{countLine, regionLines, refusalLine}
+use Rattle.printing.specs.Printed.{countLine, regionLines, refusalLine}
 
 -- ---- "It lends 8,112 floats a line for pieces, 7,904 a line for nets, 304 for ranges, 76 depths, 8,190 each for raw and report": zeros
 unfoldable pub zeros : ℕ → List Float

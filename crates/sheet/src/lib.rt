@@ -1,6 +1,6 @@
 // The sheet program's answer: the sheet's lines, the search, and what is printed.
 ghost use mathlib.Core.Path.{_≡_};
-ghost use Prim.Native.Nat.{_+_, _*_, _≤_};
+ghost use Prim.Native.Nat.{_+_, _≤_};
 ghost use lib.ListN.{length};
 ghost use Rattle.lists.specs.Parts.{patch};
 ghost use Rattle.lines.specs.Admit.{admissionNumber};
@@ -8,16 +8,13 @@ ghost use Rattle.questions.specs.Questions.{askedNumber, askedLine};
 ghost use Rattle.opening.specs.Opens.{lineOf, questionOf};
 ghost use Rattle.states.specs.States.{memory};
 ghost use Rattle.walks.specs.Places.{lineIn as walkedLine, LineInside};
-ghost use Rattle.sheet.specs.Printed.{counted, wordText, stepsText, nodesText, countLine, floatTexts, regionLine, regionLines, refusalLine};
 ghost use Rattle.sheet.specs.Answers.{zeros, zeroDepths, reportText, searchText, linesText, lineIn, askingAt, answerOf};
 use lines::Admission;
 use opening::Opened;
 use opening::Question;
 use questions::Asked;
-use regions::Word;
 use report::Reported;
 use search::Stepped;
-use states::Counts;
 use states::State;
 use walks::Line;
 use walks::Sheet;
@@ -67,116 +64,6 @@ fn asked_line(a: Asked) -> u8
     }
 }
 
-// ---- what is printed
-
-// A name and a number.
-fn put_count(out: &mut [u8], at: usize, name: &[u8], n: u64) -> usize
-    requires { ⌜ at + length (now name) + 20 ≤ length (now out) ⌝ }
-    ensures { λ r. ⌜ (r ≡ at + length (counted (now (name .entry)) n)) × (now (out .exit) ≡ patch (now (out .entry)) at (counted (now (name .entry)) n)) ⌝ }
-    ensures { λ r. ⌜ r ≤ at + length (now (name .entry)) + 20 ⌝ }
-{
-    let next = texts::put_bytes(out, at, name);
-    texts::put_decimal(out, next, n)
-}
-
-fn put_word(out: &mut [u8], w: Word) -> usize
-    requires { ⌜ 11 ≤ length (now out) ⌝ }
-    ensures { λ r. ⌜ (r ≡ 0 + length (wordText w)) × (now (out .exit) ≡ patch (now (out .entry)) 0 (wordText w)) ⌝ }
-    ensures { λ r. ⌜ r ≤ 11 ⌝ }
-{
-    match w {
-        Word::Complete => texts::put_bytes(out, 0, b"complete"),
-        Word::Budget => texts::put_bytes(out, 0, b"budget"),
-        Word::Unseparated => texts::put_bytes(out, 0, b"unseparated"),
-    }
-}
-
-// Pairs, visits and splits.
-fn put_steps(out: &mut [u8], at: usize, c: Counts) -> usize
-    requires { ⌜ at + 83 ≤ length (now out) ⌝ }
-    ensures { λ r. ⌜ (r ≡ at + length (stepsText c)) × (now (out .exit) ≡ patch (now (out .entry)) at (stepsText c)) ⌝ }
-    ensures { λ r. ⌜ r ≤ at + 83 ⌝ }
-{
-    let pairs = put_count(out, at, b" pairs=", c.pairs as u64);
-    let visits = put_count(out, pairs, b" visits=", c.visits);
-    put_count(out, visits, b" splits=", c.splits as u64)
-}
-
-// Nodes settled, given up and left.
-fn put_nodes(out: &mut [u8], at: usize, c: Counts) -> usize
-    requires { ⌜ at + 82 ≤ length (now out) ⌝ }
-    ensures { λ r. ⌜ (r ≡ at + length (nodesText c)) × (now (out .exit) ≡ patch (now (out .entry)) at (nodesText c)) ⌝ }
-    ensures { λ r. ⌜ r ≤ at + 82 ⌝ }
-{
-    let settled = put_count(out, at, b" settled=", c.settled as u64);
-    let given = put_count(out, settled, b" given=", c.given as u64);
-    put_count(out, given, b" left=", c.left as u64)
-}
-
-// The line of counts.
-fn put_counts(out: &mut [u8], w: Word, c: Counts, regions: usize) -> usize
-    requires { ⌜ 206 ≤ length (now out) ⌝ }
-    ensures { λ r. ⌜ (r ≡ 0 + length (countLine w c regions)) × (now (out .exit) ≡ patch (now (out .entry)) 0 (countLine w c regions)) ⌝ }
-    ensures { λ r. ⌜ r ≤ 206 ⌝ }
-{
-    let word = put_word(out, w);
-    let steps = put_steps(out, word, c);
-    let nodes = put_nodes(out, steps, c);
-    let all = put_count(out, nodes, b" regions=", regions as u64);
-    texts::put_bytes(out, all, b"\n")
-}
-
-fn put_floats(out: &mut [u8], at: usize, xs: &[f64]) -> usize
-    requires { ⌜ at + 17 * length (now xs) ≤ length (now out) ⌝ }
-    ensures { λ r. ⌜ (r ≡ at + length (floatTexts (now (xs .entry)))) × (now (out .exit) ≡ patch (now (out .entry)) at (floatTexts (now (xs .entry)))) ⌝ }
-    ensures { λ r. ⌜ r ≡ at + 17 * length (now (xs .entry)) ⌝ }
-{
-    let mut here = at;
-    let mut i = 0usize;
-    while i < xs.len() {
-        here = texts::put_float(out, here, xs[i]);
-        i += 1;
-    }
-    here
-}
-
-// The line of a region.
-fn put_region(out: &mut [u8], at: usize, region: &[f64]) -> usize
-    requires { ⌜ (length (now region) ≡ 10) × (at + 177 ≤ length (now out)) ⌝ }
-    ensures { λ r. ⌜ (r ≡ at + length (regionLine (now (region .entry)))) × (now (out .exit) ≡ patch (now (out .entry)) at (regionLine (now (region .entry)))) ⌝ }
-    ensures { λ r. ⌜ r ≡ at + 177 ⌝ }
-{
-    let floats = texts::put_bytes(out, at, b"region");
-    let end = put_floats(out, floats, region);
-    texts::put_bytes(out, end, b"\n")
-}
-
-// The lines of the first `n` regions.
-fn put_regions(out: &mut [u8], at: usize, list: &[f64], n: usize) -> usize
-    requires { ⌜ (n * 10 ≤ length (now list)) × (at + 177 * n ≤ length (now out)) ⌝ }
-    ensures { λ r. ⌜ (r ≡ at + length (regionLines n (now (list .entry)))) × (now (out .exit) ≡ patch (now (out .entry)) at (regionLines n (now (list .entry)))) ⌝ }
-    ensures { λ r. ⌜ r ≡ at + 177 * n ⌝ }
-{
-    let mut here = at;
-    let mut k = 0usize;
-    while k < n {
-        let from = k * 10;
-        let to = from + 10;
-        here = put_region(out, here, &list[from..to]);
-        k += 1;
-    }
-    here
-}
-
-fn put_refusal(out: &mut [u8], number: u8, line: u8) -> usize
-    requires { ⌜ 50 ≤ length (now out) ⌝ }
-    ensures { λ r. ⌜ (r ≡ 0 + length (refusalLine number line)) × (now (out .exit) ≡ patch (now (out .entry)) 0 (refusalLine number line)) ⌝ }
-{
-    let first = put_count(out, 0, b"refused ", number as u64);
-    let second = put_count(out, first, b" ", line as u64);
-    texts::put_bytes(out, second, b"\n")
-}
-
 // ---- from a search to its text
 
 // The report of a search that has ended.
@@ -195,11 +82,11 @@ fn answer_report<'a>(
 {
     match report::report(st, nets1, nets2, ranges, depths, raw, list) {
         Reported::Told(w, c, n) => {
-            let at = put_counts(out, w, c, n);
-            put_regions(out, at, list, n)
+            let at = printing::put_counts(out, w, c, n);
+            printing::put_regions(out, at, list, n)
         }
-        Reported::Running => put_refusal(out, 21, 0),
-        Reported::NoRoom => put_refusal(out, 19, 0),
+        Reported::Running => printing::put_refusal(out, 21, 0),
+        Reported::NoRoom => printing::put_refusal(out, 19, 0),
     }
 }
 
@@ -219,8 +106,8 @@ fn answer_search(
 {
     match search::run(st, nets1, nets2, ranges, depths, raw) {
         Stepped::Next(end) => answer_report(end, nets1, nets2, ranges, depths, raw, list, out),
-        Stepped::Ended => put_refusal(out, 20, 0),
-        Stepped::NoRoom => put_refusal(out, 19, 0),
+        Stepped::Ended => printing::put_refusal(out, 20, 0),
+        Stepped::NoRoom => printing::put_refusal(out, 19, 0),
     }
 }
 
@@ -310,9 +197,9 @@ fn answer_lines(
             &mut list,
             out,
         ),
-        Opened::BadLine(line, a) => put_refusal(out, admission_number(a), line),
-        Opened::BadQuestion(a) => put_refusal(out, asked_number(a), asked_line(a)),
-        Opened::NoRoom => put_refusal(out, 19, 0),
+        Opened::BadLine(line, a) => printing::put_refusal(out, admission_number(a), line),
+        Opened::BadQuestion(a) => printing::put_refusal(out, asked_number(a), asked_line(a)),
+        Opened::NoRoom => printing::put_refusal(out, 19, 0),
     }
 }
 
@@ -425,7 +312,7 @@ pub fn answer(s: &[u8], out: &mut [u8]) -> usize
 {
     let w = walks::walk(s);
     if w.no != 0 {
-        return put_refusal(out, w.no, 0);
+        return printing::put_refusal(out, w.no, 0);
     }
     let first = w.first;
     let second = w.second;

@@ -26,7 +26,7 @@ use Rattle.states.specs.declared.Counts.{Counts}
 use Rattle.states.specs.States.{Memory, sizes, needed, enough}
 use Rattle.search.specs.declared.Stepped.{Stepped}
 use Rattle.search.specs.declared.Stepped.the-variants.{Next}
-use Rattle.search.specs.Nets.{geometry}
+use Rattle.nodes.specs.Nets.{geometry}
 use Rattle.search.specs.Runs.{runDef}
 use Rattle.report.specs.declared.Reported.{Reported}
 use Rattle.report.specs.declared.Reported.the-variants.{Told}
@@ -41,7 +41,7 @@ use Rattle.coverage.proofs.Demand3.{opened-fresh}
 use Rattle.coverage.proofs.Complete.{loop-ends, complete-is-clear, loop-reports}
 use Rattle.walks.specs.Words.{wordAt, kindOf, countOf}
 use Rattle.walks.specs.Sheets.{Line, Sheet, Walked, walked, refusedAs, badLength, badCount, sizeOf, partOf, weightsOf, lineOf, walkOf}
-use Rattle.sheet.specs.Printed.{countLine, regionLines, refusalLine}
+use Rattle.printing.specs.Printed.{countLine, regionLines, refusalLine}
 use Rattle.sheet.specs.Answers.{zeros, lent, reportedText, reportText, steppedText, searchText, openedText, linesText, questionIn, walkedText, answerOf}
 use Rattle.whole.specs.Whole.{Printed, refused, reported, Whole}
 

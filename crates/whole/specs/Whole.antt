@@ -7,7 +7,7 @@ use Rattle.report.specs.Reports.{Reporting}
 use Rattle.opening.specs.Opens.{searchFor}
 use Rattle.coverage.specs.Complete.{Reports, Clear}
 use Rattle.walks.specs.Sheets.{Sheet, walked, walkOf}
-use Rattle.sheet.specs.Printed.{countLine, regionLines, refusalLine}
+use Rattle.printing.specs.Printed.{countLine, regionLines, refusalLine}
 use Rattle.sheet.specs.Answers.{questionIn, answerOf}
 
 -- One of two: "refused", a number from 1 to 19 and a line; or the line of counts and the region lines of a report of which demand 3's claims hold, each node settled having nets that pass the

@@ -6,7 +6,7 @@ use native.Mathlib.Omega.{arith}
 use lib.ListN.{length}
 use Rattle.lists.specs.Parts.{patch}
 use Rattle.regions.specs.Regions.{flats}
-use Rattle.search.specs.Nets.{geometry}
+use Rattle.nodes.specs.Nets.{geometry}
 use Rattle.report.specs.Reports.{leftRegions}
 use Rattle.report.proofs.Laws.{slot-below, left-start, left-turn, left-done}
 use Rattle.report.proofs.list_left.Statement.{statement}

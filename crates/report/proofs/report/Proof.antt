@@ -4,7 +4,7 @@ use mathlib.Core.Path.{sym, ap, _∙_}
 use native.Mathlib.Omega.{arith}
 use borrow.Author.Tests.{not-true, not-false}
 use Rattle.states.specs.States.{memory, sizes, searchWith}
-use Rattle.search.specs.Nets.{geometry}
+use Rattle.nodes.specs.Nets.{geometry}
 use Rattle.report.proofs.Laws.{room-left, report-running, report-short, report-cramped, report-forged, report-told}
 use Rattle.report.proofs.report.Statement.{statement}
 use Rattle.report.proofs.report.Tie as tie

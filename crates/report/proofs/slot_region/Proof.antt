@@ -3,8 +3,8 @@ use borrow.Author.Needs.{needs}
 use mathlib.Core.Path.{_∙_}
 use Rattle.lists.specs.Parts.{block}
 use Rattle.boxes.specs.Nets.{boxOf}
-use Rattle.search.specs.Geometry.{regionWith}
-use Rattle.search.specs.Nets.{bothBoxes}
+use Rattle.nodes.specs.Geometry.{regionWith}
+use Rattle.nodes.specs.Nets.{bothBoxes}
 use Rattle.report.proofs.slot_region.Statement.{statement}
 use Rattle.report.proofs.slot_region.Tie as tie
 

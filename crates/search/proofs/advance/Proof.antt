@@ -5,7 +5,7 @@ use Prim.Native.Nat.{suc}
 use native.Mathlib.Omega.{arith}
 use Rattle.verdicts.specs.declared.Verdict.{Verdict}
 use Rattle.states.specs.States.{memory}
-use Rattle.search.specs.Nets.{geometry}
+use Rattle.nodes.specs.Nets.{geometry}
 use Rattle.search.specs.Steps.{actOn}
 use Rattle.search.proofs.Acts.{settled-is, unseparated-is, too-deep-is, stopped-is, halved-is}
 use Rattle.search.proofs.advance.Statement.{statement}

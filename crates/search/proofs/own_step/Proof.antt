@@ -6,8 +6,9 @@ use Rattle.boxes.specs.Nets.{boxOf}
 use Rattle.clearing.specs.declared.Judged.{Judged}
 use Rattle.clearing.specs.Verdicts.{verdictOf}
 use Rattle.states.specs.States.{memory, sizes, searchWith}
-use Rattle.search.specs.Nets.{geometry}
-use Rattle.search.proofs.Tests.{waits, room, top-depth-at, one-more, step-accepted}
+use Rattle.nodes.specs.Nets.{geometry}
+use Rattle.states.proofs.Tests.{waits, top-depth-at, one-more}
+use Rattle.search.proofs.Tests.{room, step-accepted}
 use Rattle.search.proofs.Owns.{own-step-ended, own-step-short, own-step-forged, own-step-accepted}
 use Rattle.search.proofs.own_step.Statement.{statement}
 use Rattle.search.proofs.own_step.Tie as tie

@@ -6,8 +6,9 @@ use Prim.Native.Nat.{_*_}
 use borrow.Author.Tests.{not-true, not-false}
 use Rattle.clearing.specs.Verdicts.{verdictOf}
 use Rattle.states.specs.States.{memory, sizes, searchWith}
-use Rattle.search.specs.Nets.{geometry}
-use Rattle.search.proofs.Tests.{waits, top-slot, room-own, own-ended, own-short, own-forged, own-judged}
+use Rattle.nodes.specs.Nets.{geometry}
+use Rattle.states.proofs.Tests.{waits, top-slot, room-own}
+use Rattle.search.proofs.Tests.{own-ended, own-short, own-forged, own-judged}
 use Rattle.search.proofs.own_verdict.Statement.{statement}
 use Rattle.search.proofs.own_verdict.Tie as tie
 

@@ -7,7 +7,7 @@ use lib.ListN.{length}
 use borrow.Author.Tests.{not-true, not-false}
 use Rattle.states.specs.States.{memory}
 use Rattle.search.specs.declared.Stepped.{Stepped}
-use Rattle.search.specs.Nets.{geometry}
+use Rattle.nodes.specs.Nets.{geometry}
 use Rattle.search.specs.Steps.{Stepping, stepping}
 use Rattle.search.specs.Runs.{runFor}
 use Rattle.search.proofs.Runs.{left, bit, own-step-falls, measure-falls, some-left, run-over, run-turn, run-refused}

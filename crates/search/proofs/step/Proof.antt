@@ -4,8 +4,9 @@ use mathlib.Core.Path.{sym, ap, _∙_}
 use borrow.Author.Tests.{not-true, not-false}
 use Rattle.boxes.specs.Nets.{boxOf}
 use Rattle.states.specs.States.{memory, sizes, searchWith}
-use Rattle.search.specs.Nets.{geometry}
-use Rattle.search.proofs.Tests.{waits, room, top-depth-at, one-more, step-ended, step-short, step-forged, step-accepted}
+use Rattle.nodes.specs.Nets.{geometry}
+use Rattle.states.proofs.Tests.{waits, top-depth-at, one-more}
+use Rattle.search.proofs.Tests.{room, step-ended, step-short, step-forged, step-accepted}
 use Rattle.search.proofs.step.Statement.{statement}
 use Rattle.search.proofs.step.Tie as tie
 

@@ -1,0 +1,72 @@
+-- `halve` halves one line's slots, copies the other's, and counts the split. Assumes nothing.
+use borrow.Author.Needs.{needs}
+use mathlib.Core.Path.{ap, _∙_}
+use mathlib.Core.Bool.{Bool, not}
+use native.Mathlib.Omega.{arith}
+use Rattle.nodes.specs.Writes.{slotsAfter, rangesAfter}
+use Rattle.nodes.proofs.halve.Statement.{statement}
+use Rattle.nodes.proofs.halve.Tie as tie
+
+second-halved-requires : tie.Need-second-halved-requires
+second-halved-requires c κs = search needs
+
+cast-split-net : tie.Need-cast-split-net
+cast-split-net c = search needs
+
+split-net-requires : tie.Need-split-net-requires
+split-net-requires c κs = search needs
+
+cast-split-net-2 : tie.Need-cast-split-net-2
+cast-split-net-2 c = search needs
+
+split-net-requires-2 : tie.Need-split-net-requires-2
+split-net-requires-2 c κs = search needs
+
+split-ranges-requires : tie.Need-split-ranges-requires
+split-ranges-requires c κs = search needs
+
+deepen-requires : tie.Need-deepen-requires
+deepen-requires c κs = search needs
+
+halved-requires : tie.Need-halved-requires
+halved-requires c κs = (c .before .before .before .before .before .before .before .before .before .before .before .before .before .before .before .before .before .before .before .before .before .before .before .pre .1 .1, c .before .before .before .before .before .before .before .before .before .before .before .before .before .before .before .before .before .before .before .before .before .before .before .pre .1 .2, c .before .before .before .before .before .before .before .before .before .before .before .before .before .before .before .before .before .before .before .before .before .before .before .pre .1 .3, c .before .before .before .before .before .before .before .before .before .before .before .before .before .before .before .before .before .before .before .before .before .before .before .pre .0 .few)
+
+same-length : tie.Need-same-length
+same-length c = search needs
+
+same-length-2 : tie.Need-same-length-2
+same-length-2 c = search needs
+
+same-length-3 : tie.Need-same-length-3
+same-length-3 c = search needs
+
+same-length-4 : tie.Need-same-length-4
+same-length-4 c = search needs
+
+returns : tie.Need-returns
+returns c =
+    let s = c .before .before .before .before .before .before .before .before .before .before .before .before .before .before .before .before .before .before .before .second-halved .ensures in (
+      c .halved .ensures,
+      c .before .before .before .before .before .before .before .before .before .before .before .before .before .before .before .before .split-net .ensures ∙ ap (λ (b : Bool). slotsAfter (not b) (c .before .before .before .before .before .before .before .before .before .before .before .before .before .before .before .before .before .before .before .before .before .before .before .before .args .st .width1) (c .before .before .before .before .before .before .before .before .before .before .before .before .before .before .before .before .before .before .before .before .before .before .before .before .args .k) (c .before .before .before .before .before .before .before .before .before .before .before .before .before .before .before .before .before .before .before .before .before .before .before .before .args .nets1 .now)) s,
+      c .before .before .before .before .before .before .before .before .before .before .before .split-net2 .ensures ∙ ap (λ (b : Bool). slotsAfter b (c .before .before .before .before .before .before .before .before .before .before .before .before .before .before .before .before .before .before .before .before .before .before .before .before .args .st .width2) (c .before .before .before .before .before .before .before .before .before .before .before .before .before .before .before .before .before .before .before .before .before .before .before .before .args .k) (c .before .before .before .before .before .before .before .before .before .before .before .before .before .before .before .before .before .before .before .before .before .before .before .before .args .nets2 .now)) s,
+      c .before .before .before .before .before .before .before .split-ranges .ensures ∙ ap (λ (b : Bool). rangesAfter b (c .before .before .before .before .before .before .before .before .before .before .before .before .before .before .before .before .before .before .before .before .before .before .before .before .args .k) (c .before .before .before .before .before .before .before .before .before .before .before .before .before .before .before .before .before .before .before .before .before .before .before .before .args .ranges .now)) s,
+      c .before .before .before .deepen .ensures,
+    )
+
+pub halve-spec : {M : Type 1} → statement M
+halve-spec =
+    tie.close
+    (tie.spec
+    second-halved-requires
+    cast-split-net
+    split-net-requires
+    cast-split-net-2
+    split-net-requires-2
+    split-ranges-requires
+    deepen-requires
+    halved-requires
+    same-length
+    same-length-2
+    same-length-3
+    same-length-4
+    returns)

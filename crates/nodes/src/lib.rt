@@ -1,0 +1,162 @@
+// What a step does: to the state, and to the slots of the node on top.
+ghost use mathlib.Core.Path.{_≡_};
+ghost use mathlib.Core.Bool.{not};
+ghost use Prim.Native.Nat.{_+_, _-_, _*_, _≤_, _<_};
+ghost use lib.ListN.{length};
+ghost use Rattle.lists.specs.Parts.{block, patch};
+ghost use Rattle.boxes.specs.Boxes.{secondHalved};
+ghost use Rattle.regions.specs.Regions.{flat};
+ghost use Rattle.nodes.specs.Geometry.{regionWith};
+ghost use Rattle.nodes.specs.Nets.{bothBoxes};
+ghost use Rattle.nodes.specs.Moves.{settledState, givenState, stoppedState, halvedState};
+ghost use Rattle.nodes.specs.Writes.{slotsAfter, rangesAfter, depthsAfter, Above};
+use boxes::Aabb;
+use regions::Region;
+use states::State;
+
+// ---- what a step does to the state
+
+pub fn settled(st: State, k: u32) -> State
+    requires { ⌜ (st .settled < 4294967295) × (st .visits < 18446744073709551615) ⌝ }
+    ensures { λ r. ⌜ r ≡ settledState k st ⌝ }
+{
+    let mut next = st;
+    next.waiting = k;
+    next.visits = st.visits + 1;
+    next.settled = st.settled + 1;
+    next
+}
+
+fn given_up(st: State, k: u32) -> State
+    requires { ⌜ (st .given < 4294967295) × (st .visits < 18446744073709551615) ⌝ }
+    ensures { λ r. ⌜ r ≡ givenState k st ⌝ }
+{
+    let mut next = st;
+    next.waiting = k;
+    next.visits = st.visits + 1;
+    next.given = st.given + 1;
+    next
+}
+
+pub fn stopped(st: State) -> State
+    requires { ⌜ (st .unspent ≡ 0) × (st .visits < 18446744073709551615) ⌝ }
+    ensures { λ r. ⌜ r ≡ stoppedState st ⌝ }
+{
+    let mut next = st;
+    next.visits = st.visits + 1;
+    next.stopped = true;
+    next
+}
+
+fn halved(st: State, k: u32) -> State
+    requires { ⌜ (1 ≤ st .unspent) × (st .splits < 4294967295) × (st .visits < 18446744073709551615) × (k < 65600) ⌝ }
+    ensures { λ r. ⌜ r ≡ halvedState k (st .unspent - 1) st ⌝ }
+{
+    let mut next = st;
+    next.waiting = k + 2;
+    next.visits = st.visits + 1;
+    next.splits = st.splits + 1;
+    next.unspent = st.unspent - 1;
+    next
+}
+
+// ---- what it does to the memory
+
+// The region of node k, whose nets have the boxes a and b.
+pub fn region_of(a: Aabb, b: Aabb, ranges: &[f64], k: usize) -> Region
+    requires { ⌜ (k + 1) * 4 ≤ length (now ranges) ⌝ }
+    ensures { λ r. ⌜ r ≡ regionWith (bothBoxes a b) (block 4 k (now (ranges .entry))) ⌝ }
+{
+    let at = k * 4;
+    Region {
+        a0: ranges[at],
+        a1: ranges[at + 1],
+        b0: ranges[at + 2],
+        b1: ranges[at + 3],
+        x0: floats::min(a.x0, b.x0),
+        y0: floats::min(a.y0, b.y0),
+        z0: floats::min(a.z0, b.z0),
+        x1: floats::max(a.x1, b.x1),
+        y1: floats::max(a.y1, b.y1),
+        z1: floats::max(a.z1, b.z1),
+    }
+}
+
+// Slots k and k + 1 of a line: the halves of the net in slot k, or that net twice.
+fn split_net(s: &mut [f64], k: usize, w: usize, half: bool)
+    requires { ⌜ (k + 2) * (4 * w) ≤ length (now s) ⌝ }
+    ensures { λ r. ⌜ now (s .exit) ≡ slotsAfter half w k (now (s .entry)) ⌝ }
+{
+    if half {
+        nets::halve_slot(s, k, w);
+        return;
+    }
+    nets::copy_slot(s, k, w);
+}
+
+// Node k's ranges in halves along one line: the upper in slot k, the lower in slot k + 1.
+fn split_ranges(ranges: &mut [f64], k: usize, second: bool)
+    requires { ⌜ (k + 2) * 4 ≤ length (now ranges) ⌝ }
+    ensures { λ r. ⌜ now (ranges .exit) ≡ rangesAfter second k (now (ranges .entry)) ⌝ }
+{
+    let at = k * 4;
+    let a0 = ranges[at];
+    let a1 = ranges[at + 1];
+    let b0 = ranges[at + 2];
+    let b1 = ranges[at + 3];
+    if second {
+        let mid = floats::mean(b0, b1);
+        nets::put4(ranges, at, a0, a1, mid, b1);
+        nets::put4(ranges, at + 4, a0, a1, b0, mid);
+        return;
+    }
+    let mid = floats::mean(a0, a1);
+    nets::put4(ranges, at, mid, a1, b0, b1);
+    nets::put4(ranges, at + 4, a0, mid, b0, b1);
+}
+
+// Both halves are one deeper.
+fn deepen(depths: &mut [u8], k: usize, depth: u8)
+    requires { ⌜ (k + 2 ≤ length (now depths)) × (depth < 64) ⌝ }
+    ensures { λ r. ⌜ now (depths .exit) ≡ depthsAfter depth k (now (depths .entry)) ⌝ }
+{
+    depths[k] = depth + 1;
+    depths[k + 1] = depth + 1;
+}
+
+// ---- both
+
+// Node k is given up: its region goes to the raw list.
+pub fn give_up(st: State, k: u32, a: Aabb, b: Aabb, ranges: &[f64], raw: &mut [f64]) -> State
+    requires { ⌜ ((k + 1) * 4 ≤ length (now ranges)) × ((st .given + 1) * 10 ≤ length (now raw)) × (st .given < 4294967295) × (st .visits < 18446744073709551615) ⌝ }
+    ensures { λ r. ⌜ r ≡ givenState k st ⌝ }
+    ensures { λ r. ⌜ now (raw .exit) ≡ patch (now (raw .entry)) (st .given * 10) (flat (regionWith (bothBoxes a b) (block 4 k (now (ranges .entry))))) ⌝ }
+{
+    regions::store(raw, st.given as usize, region_of(a, b, ranges, k as usize));
+    given_up(st, k)
+}
+
+// Node k is halved along the line with the larger box, along the second where they are equal.
+pub fn halve(
+    st: State,
+    k: u32,
+    depth: u8,
+    a: Aabb,
+    b: Aabb,
+    nets1: &mut [f64],
+    nets2: &mut [f64],
+    ranges: &mut [f64],
+    depths: &mut [u8],
+) -> State
+    requires { ⌜ Above st k (record { nets1 = length (now nets1); nets2 = length (now nets2); ranges = length (now ranges); depths = length (now depths); raw = 0 }) ⌝ }
+    requires { ⌜ (depth < 64) × (1 ≤ st .unspent) × (st .splits < 4294967295) × (st .visits < 18446744073709551615) ⌝ }
+    ensures { λ r. ⌜ (r ≡ halvedState k (st .unspent - 1) st) × (now (nets1 .exit) ≡ slotsAfter (not (secondHalved a b)) (st .width1) k (now (nets1 .entry))) × (now (nets2 .exit) ≡ slotsAfter (secondHalved a b) (st .width2) k (now (nets2 .entry))) × (now (ranges .exit) ≡ rangesAfter (secondHalved a b) k (now (ranges .entry))) × (now (depths .exit) ≡ depthsAfter depth k (now (depths .entry))) ⌝ }
+{
+    let second = boxes::second_halved(a, b);
+    let at = k as usize;
+    split_net(nets1, at, st.width1 as usize, !second);
+    split_net(nets2, at, st.width2 as usize, second);
+    split_ranges(ranges, at, second);
+    deepen(depths, at, depth);
+    halved(st, k)
+}

@@ -1,0 +1,20 @@
+-- A name, then a number behind it. Assumes nothing.
+use borrow.Author.Needs.{needs}
+use Rattle.printing.proofs.Laws.{counted-is}
+use Rattle.printing.proofs.put_count.Statement.{statement}
+use Rattle.printing.proofs.put_count.Tie as tie
+
+put-bytes-requires : tie.Need-put-bytes-requires
+put-bytes-requires c κs = search needs
+
+put-decimal-requires : tie.Need-put-decimal-requires
+put-decimal-requires c κs = search needs
+
+same-length : tie.Need-same-length
+same-length c = search needs
+
+returns : tie.Need-returns
+returns c = counted-is (c .before .before .before .before .before .before .before .before .before .before .args .out .now) (c .before .before .before .before .before .before .before .before .before .before .args .at) (c .before .before .before .before .before .before .before .before .before .before .args .name .now) (c .before .before .before .before .before .before .before .before .before .before .args .n) (search needs) (search needs) (c .before .before .before .before .before .before .put-bytes .ensures) (c .before .before .put-decimal .ensures)
+
+pub put-count-spec : {M : Type 1} → statement M
+put-count-spec = tie.close (tie.spec put-bytes-requires put-decimal-requires same-length returns)

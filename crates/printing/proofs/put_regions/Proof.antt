@@ -1,0 +1,79 @@
+-- A line a region: before each turn the first `k` are written. Assumes nothing.
+use borrow.Author.Needs.{needs}
+use mathlib.Core.Path.{_≡_, refl}
+use Prim.Native.Nat.{_+_, _-_, _*_, _≤_}
+use native.Mathlib.Omega.{arith}
+use lib.ListN.{length}
+use Rattle.lists.specs.Parts.{patch}
+use Rattle.lists.proofs.Parts.{lent-length}
+use Rattle.printing.specs.Printed.{regionLines}
+use Rattle.printing.proofs.Laws.{regions-start, regions-turn, regions-done}
+use Rattle.printing.proofs.put_regions.Statement.{statement}
+use Rattle.printing.proofs.put_regions.Tie as tie
+
+abbrev Inv-loop : tie.InvT-loop
+Inv-loop out₀ at list n here₀ k₀ out here k = (length out ≡ length out₀) × (k ≤ n) × (here ≡ at + 177 * k) × (out ≡ patch out₀ at (regionLines k list))
+
+abbrev μ-loop : tie.MeasureT-loop
+μ-loop out₀ at list n here₀ k₀ out here k = n - k
+
+loop-holds : tie.Need-loop-holds Inv-loop μ-loop
+loop-holds c = (refl, search needs, omega arith, regions-start (c .before .before .args .out .now) (c .before .before .args .at) (c .before .before .args .list .now))
+
+mul-from : tie.Need-mul-from Inv-loop μ-loop
+mul-from c = search needs
+
+add-to : tie.Need-add-to Inv-loop μ-loop
+add-to c = search needs
+
+mul-put-region : tie.Need-mul-put-region Inv-loop μ-loop
+mul-put-region c = search needs
+
+sub-put-region : tie.Need-sub-put-region Inv-loop μ-loop
+sub-put-region c = search needs
+
+part-put-region-start : tie.Need-part-put-region-start Inv-loop μ-loop
+part-put-region-start c = search needs
+
+part-put-region-end : tie.Need-part-put-region-end Inv-loop μ-loop
+part-put-region-end c = search needs
+
+put-region-requires : tie.Need-put-region-requires Inv-loop μ-loop
+put-region-requires c κs = (lent-length (c .before .before .before .loop .k * 10) 10 (c .before .before .before .before .before .before .args .list .now) (search needs), search needs)
+
+add-k : tie.Need-add-k Inv-loop μ-loop
+add-k c = search needs
+
+loop-less : tie.Need-loop-less Inv-loop μ-loop
+loop-less c = search needs
+
+loop-again : tie.Need-loop-again Inv-loop μ-loop
+loop-again c =
+    let t = regions-turn (c .before .before .before .before .before .before .before .before .before .args .out .now) (c .before .before .before .before .before .before .before .before .before .args .at) (c .before .before .before .before .before .before .before .before .before .args .list .now) (c .before .before .before .before .before .before .loop .k) (c .before .before .before .before .before .before .before .before .before .args .n) (search needs) (search needs) (search needs) (c .before .before .before .before .before .before .loop .inv .2) (c .before .before .before .before .before .before .loop .inv .3) (c .before .before .put-region .ensures) in
+    (search needs, search needs, t .0, t .1)
+
+same-length : tie.Need-same-length Inv-loop μ-loop
+same-length c = search needs
+
+returns : tie.Need-returns Inv-loop μ-loop
+returns c = regions-done (c .before .before .before .before .args .out .now) (c .before .before .before .before .args .at) (c .before .before .before .before .args .list .now) (c .before .loop .k) (c .before .before .before .before .args .n) (search needs) (search needs) (search needs) (c .before .loop .inv .2) (c .before .loop .inv .3)
+
+pub put-regions-spec : {M : Type 1} → statement M
+put-regions-spec =
+    tie.close
+    (tie.spec
+    Inv-loop
+    μ-loop
+    loop-holds
+    mul-from
+    add-to
+    mul-put-region
+    sub-put-region
+    part-put-region-start
+    part-put-region-end
+    put-region-requires
+    add-k
+    loop-less
+    loop-again
+    same-length
+    returns)
