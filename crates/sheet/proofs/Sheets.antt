@@ -2,13 +2,13 @@
 use mathlib.Core.Path.{_≡_, refl, sym, ap, _∙_, subst}
 use mathlib.Core.Bool.{Bool, true, false, not, _||_}
 use mathlib.Core.List.{List}
-use Prim.Native.Nat.{ℕ, _+_, _*_, _%_, _≤_}
+use Prim.Native.Nat.{ℕ, _+_, _*_, _%_, _≤_, _<_}
 use native.Mathlib.Omega.{arith}
 use lib.Dec.{T, ltb, eqb}
 use lib.ListN.{length, take, drop}
 use lib.Seq.{take-at}
 use lib.Ieee.{Float}
-use borrow.Author.Tests.{ltb-false}
+use borrow.Author.Tests.{ltb-false, lt-ltb, le-ltb}
 use Rattle.lists.specs.Parts.{patch}
 use Rattle.walks.specs.Words.{floatsFrom, wordsFrom}
 use Rattle.walks.specs.Sheets.{Walked, walked, refusedAs, badLength, walkOf}
@@ -20,7 +20,7 @@ use Rattle.walks.proofs.Walks.{on, off}
 use Rattle.opening.specs.declared.Question.{Question as Asking}
 use Rattle.opening.specs.Opens.{lineOf, questionOf}
 use Rattle.printing.specs.Printed.{refusalLine}
-use Rattle.sheet.specs.Answers.{lineIn, askingAt, linesText, walkedText, answerOf}
+use Rattle.sheet.specs.Answers.{lineIn, askingAt, linesText, walkedText, answerOf, answerLength, answerIn}
 use Rattle.printing.proofs.Laws.{Wrote}
 
 -- ---- the front of an array that a list was read into
@@ -83,3 +83,10 @@ walked-answer s r q z e f =
 -- from the front of the buffer
 pub from-front : (out text all : List ℕ) {o : List ℕ} {r : ℕ} → text ≡ all → Wrote out 0 text o r → (r ≡ length all) × (o ≡ patch out 0 all)
 from-front out text all e (a, b) = let n = ap length e in (omega arith, b ∙ ap (λ (l : List ℕ). patch out 0 l) e)
+
+-- a buffer that the longest answer doesn't fit, and one that it fits
+pub no-answer : (s out : List ℕ) → length out < 145169 → (0 ≡ answerLength s out) × (out ≡ answerIn s out)
+no-answer s out h = let e = lt-ltb (length out) 145169 h in (rw e refl, rw e refl)
+
+pub some-answer : (s out : List ℕ) {o : List ℕ} {r : ℕ} → 145169 ≤ length out → (r ≡ length (answerOf s)) × (o ≡ patch out 0 (answerOf s)) → (r ≡ answerLength s out) × (o ≡ answerIn s out)
+some-answer s out h (a, b) = let e = le-ltb (length out) 145169 h in (rw e a, rw e b)

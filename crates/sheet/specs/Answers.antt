@@ -1,8 +1,11 @@
 -- The sheet program: what is printed for a sheet's bytes (document 01, "Sheet program"). Definitions only.
 use Prim.Native.Nat.{ℕ, _+_}
 use mathlib.Core.List.{List, _++_}
-use lib.ListN.{replicate}
+use mathlib.Core.Bool.{cond}
+use lib.Dec.{ltb}
+use lib.ListN.{length, replicate}
 use lib.Ieee.{Float}
+use Rattle.lists.specs.Parts.{patch}
 use Rattle.floats.specs.Floats.{zero64}
 use Rattle.facts.specs.Faults.{Line, Question}
 use Rattle.walks.specs.Words.{floatAt}
@@ -82,3 +85,16 @@ walkedText (refusedAs n) = refusalLine n 0
 -- from the bytes on standard input to those on standard output (`answer`)
 unfoldable pub answerOf : List ℕ → List ℕ
 answerOf s = walkedText (walkOf s)
+
+-- ---- into a lent buffer
+-- the longest answer: 206 bytes for the line of counts, 177 for each of 819 regions
+abbrev pub longest : ℕ
+longest = 145169
+
+-- how many bytes the answer has; none where the buffer is too short for the longest
+abbrev pub answerLength : List ℕ → List ℕ → ℕ
+answerLength s out = cond (ltb (length out) longest) 0 (length (answerOf s))
+
+-- the buffer afterwards: the answer from its front, or as it was
+abbrev pub answerIn : List ℕ → List ℕ → List ℕ
+answerIn s out = cond (ltb (length out) longest) out (patch out 0 (answerOf s))

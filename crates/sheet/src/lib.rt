@@ -8,7 +8,7 @@ ghost use Rattle.questions.specs.Questions.{askedNumber, askedLine};
 ghost use Rattle.opening.specs.Opens.{lineOf, questionOf};
 ghost use Rattle.states.specs.States.{memory};
 ghost use Rattle.walks.specs.Places.{lineIn as walkedLine, LineInside};
-ghost use Rattle.sheet.specs.Answers.{zeros, zeroDepths, reportText, searchText, linesText, lineIn, askingAt, answerOf};
+ghost use Rattle.sheet.specs.Answers.{zeros, zeroDepths, reportText, searchText, linesText, lineIn, askingAt, answerOf, answerLength, answerIn};
 use lines::Admission;
 use opening::Opened;
 use opening::Question;
@@ -305,8 +305,8 @@ fn answer_first(s: &[u8], q: Question, l: Line, second: Line, out: &mut [u8]) ->
     )
 }
 
-// The answer to any bytes, from the front of `out`; answers how many bytes it has.
-pub fn answer(s: &[u8], out: &mut [u8]) -> usize
+// The answer to any bytes, in a buffer that the longest fits.
+fn answer_sheet(s: &[u8], out: &mut [u8]) -> usize
     requires { ⌜ 145169 ≤ length (now out) ⌝ }
     ensures { λ r. ⌜ (r ≡ length (answerOf (now (s .entry)))) × (now (out .exit) ≡ patch (now (out .entry)) 0 (answerOf (now (s .entry)))) ⌝ }
 {
@@ -317,4 +317,14 @@ pub fn answer(s: &[u8], out: &mut [u8]) -> usize
     let first = w.first;
     let second = w.second;
     answer_first(s, question_at(s, w.asked, w.splits), first, second, out)
+}
+
+// The answer to any bytes, from the front of `out`; answers how many bytes it has. A buffer that the longest answer doesn't fit stays as it is, and the answer is 0.
+pub fn answer(s: &[u8], out: &mut [u8]) -> usize
+    ensures { λ r. ⌜ (r ≡ answerLength (now (s .entry)) (now (out .entry))) × (now (out .exit) ≡ answerIn (now (s .entry)) (now (out .entry))) ⌝ }
+{
+    if out.len() < 145169 {
+        return 0;
+    }
+    answer_sheet(s, out)
 }

@@ -3,7 +3,6 @@ use borrow.Author.Needs.{needs}
 use mathlib.Core.Path.{sym}
 use lib.ListN.{take}
 use lib.Seq.{length-take-le}
-use Rattle.sheet.specs.Answers.{answerOf}
 use Rattle.clearance.proofs.Laws.{text-fits}
 use Rattle.clearance.proofs.main.Statement.{statement}
 use Rattle.clearance.proofs.main.Tie as tie
@@ -33,10 +32,10 @@ answer-requires : tie.Need-answer-requires
 answer-requires c κs = search needs
 
 array-share-prefix-out : tie.Need-array-share-prefix-out
-array-share-prefix-out c = text-fits (c .before .before .before .before .before .before .before .answer-room .result) (answerOf (take (c .before .before .before .before .before .read-full .result) (c .before .before .before .before .before .read-full .last .1 .0))) (c .before .answer .ensures)
+array-share-prefix-out c = text-fits (take (c .before .before .before .before .before .read-full .result) (c .before .before .before .before .before .read-full .last .1 .0)) (c .before .before .before .before .before .before .before .answer-room .result) (c .before .answer .ensures)
 
 slice-aggregate-write-all : tie.Need-slice-aggregate-write-all
-slice-aggregate-write-all c = sym (length-take-le (c .before .before .answer .result) (c .before .before .answer .last .1 .0) (text-fits (c .before .before .before .before .before .before .before .before .answer-room .result) (answerOf (take (c .before .before .before .before .before .before .read-full .result) (c .before .before .before .before .before .before .read-full .last .1 .0))) (c .before .before .answer .ensures)))
+slice-aggregate-write-all c = sym (length-take-le (c .before .before .answer .result) (c .before .before .answer .last .1 .0) (text-fits (take (c .before .before .before .before .before .before .read-full .result) (c .before .before .before .before .before .before .read-full .last .1 .0)) (c .before .before .before .before .before .before .before .before .answer-room .result) (c .before .before .answer .ensures)))
 
 write-all-requires : tie.Need-write-all-requires
 write-all-requires c κs = search needs
