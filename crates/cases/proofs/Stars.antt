@@ -14,13 +14,14 @@ use Rattle.cuts.specs.Cuts.{lerpOf, lowerPart, restOf, restricted, upperPart}
 use Rattle.facts.specs.Cover.{cutsFrom}
 use Rattle.floats.specs.Floats.{greatest, least, middle, within}
 use Rattle.floats.specs.Vectors.{dotOf, normOf}
-use Rattle.knots.specs.Knots.{between, boundsOf, flatKnots, homogeneousOf, homogeneousPoles, inside, repeated, weightOf}
+use Rattle.knots.specs.Knots.{between, boundsOf, flatKnots, inside, repeated}
 use Rattle.lines.specs.Admit.{tooLarge, validateDirection, validatePoles}
 use Rattle.lists.specs.Rounds.{firsts, paired, remains}
 use Rattle.lists.specs.Tests.{eachTwo, every, total}
 use Rattle.nets.specs.Points.{pointsOf}
 use Rattle.nets.specs.Slots.{copySlot, splitSlot}
 use Rattle.pieces.specs.Pieces.{cutTo, held, netAt, netOf, netsOf, share, spanBezier}
+use Rattle.poles.specs.Poles.{homogeneousOf, homogeneousPoles, weightOf}
 use Rattle.questions.specs.Questions.{askWithin, parted, rangeFits}
 use Rattle.roots.specs.Root.{isqrt, rootIn, rootUnits, rounded}
 use Rattle.spans.specs.Spans.{backOf, clampOf, passedOf, reachOf, spanAround, spanEnd, spanOf}

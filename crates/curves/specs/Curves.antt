@@ -3,7 +3,8 @@ use Prim.Native.Nat.{ℕ, _-_, _/_}
 use mathlib.Core.List.{List}
 use lib.ListN.{length}
 use lib.Ieee.{Float}
-use Rattle.knots.specs.Knots.{flatKnots, homogeneousPoles, breaksOf}
+use Rattle.poles.specs.Poles.{homogeneousPoles}
+use Rattle.knots.specs.Knots.{flatKnots, breaksOf}
 use Rattle.pieces.specs.Pieces.{netsOf}
 
 -- `CurvePieces::len`: one piece between each two neighbouring breaks

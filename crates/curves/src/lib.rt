@@ -5,7 +5,8 @@ ghost use lib.ListN.{length};
 ghost use Rattle.lists.specs.Parts.{block, patch};
 ghost use Rattle.lines.specs.declared.Admission.the-variants.{Admitted};
 ghost use Rattle.lines.specs.Admit.{admitOf};
-ghost use Rattle.knots.specs.Knots.{homogeneousPoles, breaksOf};
+ghost use Rattle.poles.specs.Poles.{homogeneousPoles};
+ghost use Rattle.knots.specs.Knots.{breaksOf};
 ghost use Rattle.pieces.specs.Pieces.{netsOf};
 ghost use Rattle.curves.specs.Curves.{pieceCount, piecesOf};
 
@@ -62,7 +63,7 @@ fn with_poles(
     let len = 4 * n;
     let mut h = pole_room();
     let poles = &mut h[..len];
-    knots::homogeneous_poles(coords, weights, n, poles);
+    poles::line_poles(coords, weights, poles);
     with_breaks(knots, flat, poles, p, lo, hi, out);
 }
 

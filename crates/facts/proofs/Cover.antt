@@ -19,7 +19,8 @@ use Rattle.points.specs.declared.Interval.{Interval}
 use Rattle.lines.specs.declared.Admission.the-variants.{Admitted}
 use Rattle.lines.specs.Admit.{two20}
 use Rattle.lines.proofs.Admitted.{counts}
-use Rattle.knots.specs.Knots.{repeated, flatKnots, homogeneousPoles, boundsOf, inside, between, breaksOf}
+use Rattle.poles.specs.Poles.{homogeneousPoles}
+use Rattle.knots.specs.Knots.{repeated, flatKnots, boundsOf, inside, between, breaksOf}
 use Rattle.pieces.specs.Pieces.{netOf, netsOf}
 use Rattle.pieces.proofs.Lengths.{length-net, length-nets, net-at}
 use Rattle.curves.specs.Curves.{pieceCount, piecesOf}

@@ -7,7 +7,8 @@ use Rattle.blends.specs.Blends.{mixOf, knotOf, alphaOf, endOf, coefficient, add
 use Rattle.lists.specs.Rounds.{paired, remains, firsts}
 use Rattle.cuts.specs.Cuts.{lerpOf, restOf, upperPart, lowerPart, restricted}
 use Rattle.spans.specs.Spans.{clampOf, reachOf, backOf, spanOf, passedOf, spanEnd, spanAround}
-use Rattle.knots.specs.Knots.{repeated, flatKnots, weightOf, homogeneousOf, homogeneousPoles, inside, between}
+use Rattle.poles.specs.Poles.{weightOf, homogeneousOf, homogeneousPoles}
+use Rattle.knots.specs.Knots.{repeated, flatKnots, inside, between}
 use Rattle.pieces.specs.Pieces.{held, netAt, spanBezier, share, cutTo, netOf, netsOf}
 use Rattle.curves.specs.Curves.{piecesOf}
 

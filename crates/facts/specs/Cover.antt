@@ -5,7 +5,8 @@ use lib.Dec.{T}
 use lib.ListN.{length}
 use lib.Ieee.{Float, le}
 use Rattle.floats.specs.Stations.{Cut}
-use Rattle.knots.specs.Knots.{flatKnots, homogeneousPoles, between}
+use Rattle.poles.specs.Poles.{homogeneousPoles}
+use Rattle.knots.specs.Knots.{flatKnots, between}
 use Rattle.pieces.specs.Pieces.{netOf}
 use Rattle.facts.specs.Faults.{Line}
 

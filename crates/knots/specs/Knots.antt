@@ -1,13 +1,10 @@
--- A line's flat knots and bounds, its homogeneous poles, and the breaks of an asked range. Definitions only.
-use Prim.Native.Nat.{ℕ, zero, suc, _+_, _-_, _*_}
+-- A line's flat knots and bounds, and the breaks of an asked range. Definitions only.
+use Prim.Native.Nat.{ℕ, zero, suc, _-_}
 use mathlib.Core.Bool.{Bool, false, cond}
 use mathlib.Core.List.{List, [], _∷_}
-use lib.ListN.{getD, length}
-use lib.Dec.{ltb}
-use lib.Ieee.{Float, binary64, mul, lt, nan}
+use lib.ListN.{getD}
+use lib.Ieee.{Float, lt, nan}
 use Rattle.lists.specs.Tests.{total}
-use Rattle.floats.specs.Floats.{one64}
-use Rattle.points.specs.declared.Point4D.{Point4D}
 use Rattle.points.specs.declared.Interval.{Interval}
 
 -- k, n times, before l
@@ -24,25 +21,6 @@ flatKnots (k ∷ ks) [] = []
 -- `KnotVector::bounds`: flat knots number degree and number poles, counted from 0
 unfoldable pub boundsOf : ℕ → List Float → List ℕ → Interval
 boundsOf degree knots mults = record { lo = getD (flatKnots knots mults) degree nan; hi = getD (flatKnots knots mults) (total mults - degree - 1) nan }
-
--- weight i, and 1 where there is none: no weights means every weight is 1
-unfoldable pub weightOf : List Float → ℕ → Float
-weightOf weights i = cond (ltb i (length weights)) (getD weights i nan) one64
-
--- `Poles::homogeneous`: pole i as x w, y w, z w, w
-unfoldable pub homogeneousOf : List Float → List Float → ℕ → Point4D
-homogeneousOf coords weights i = record {
-  x = mul binary64 (getD coords (3 * i) nan) (weightOf weights i);
-  y = mul binary64 (getD coords (3 * i + 1) nan) (weightOf weights i);
-  z = mul binary64 (getD coords (3 * i + 2) nan) (weightOf weights i);
-  w = weightOf weights i;
-}
-
--- n poles from pole i on, four numbers each
-unfoldable pub homogeneousPoles : List Float → List Float → ℕ → ℕ → List Float
-homogeneousPoles coords weights zero i = []
-homogeneousPoles coords weights (suc n) i =
-    homogeneousOf coords weights i .x ∷ homogeneousOf coords weights i .y ∷ homogeneousOf coords weights i .z ∷ homogeneousOf coords weights i .w ∷ homogeneousPoles coords weights n (suc i)
 
 -- strictly between: the filter of `CurvePieces::new`
 unfoldable pub inside : Float → Float → Float → Bool

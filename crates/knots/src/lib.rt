@@ -1,12 +1,12 @@
-// A line's flat knots and bounds, its homogeneous poles, and the breaks of an asked range.
+// A line's flat knots and bounds, and the breaks of an asked range.
 ghost use mathlib.Core.Path.{_≡_};
 ghost use mathlib.Core.Bool.{cond};
 ghost use mathlib.Core.List.{_++_};
-ghost use Prim.Native.Nat.{_+_, _*_, _≤_};
+ghost use Prim.Native.Nat.{_+_, _≤_};
 ghost use lib.ListN.{length, take, drop};
 ghost use Rattle.lists.specs.Parts.{patch};
 ghost use Rattle.lists.specs.Tests.{total};
-ghost use Rattle.knots.specs.Knots.{repeated, flatKnots, boundsOf, weightOf, homogeneousOf, homogeneousPoles, inside, breaksOf};
+ghost use Rattle.knots.specs.Knots.{repeated, flatKnots, boundsOf, inside, breaksOf};
 
 // Room for the flat knots of any admitted line: 128 poles and degree 25.
 pub fn flat_room() -> [f64; 154]
@@ -69,41 +69,6 @@ pub fn bounds(degree: u32, knots: &[f64], mults: &[u32]) -> points::Interval
     points::Interval {
         lo: flat[first],
         hi: flat[last],
-    }
-}
-
-fn weight(weights: &[f64], i: usize) -> f64
-    ensures { λ r. ⌜ r ≡ weightOf (now (weights .entry)) i ⌝ }
-{
-    if i < weights.len() {
-        return weights[i];
-    }
-    1.0
-}
-
-// Pole `i` as four numbers.
-fn homogeneous(coords: &[f64], weights: &[f64], i: usize) -> points::Point4D
-    requires { ⌜ (i ≤ 128) × (3 * i + 3 ≤ length (now coords)) ⌝ }
-    ensures { λ r. ⌜ r ≡ homogeneousOf (now (coords .entry)) (now (weights .entry)) i ⌝ }
-{
-    let w = weight(weights, i);
-    points::Point4D {
-        x: coords[3 * i] * w,
-        y: coords[3 * i + 1] * w,
-        z: coords[3 * i + 2] * w,
-        w: w,
-    }
-}
-
-// The first `n` poles, four numbers each.
-pub fn homogeneous_poles(coords: &[f64], weights: &[f64], n: usize, out: &mut [f64])
-    requires { ⌜ (n ≤ 128) × (3 * n ≤ length (now coords)) × (length (now out) ≡ 4 * n) ⌝ }
-    ensures { λ r. ⌜ now (out .exit) ≡ homogeneousPoles (now (coords .entry)) (now (weights .entry)) n 0 ⌝ }
-{
-    let mut i = 0;
-    while i < n {
-        points::put(out, 4 * i, homogeneous(coords, weights, i));
-        i += 1;
     }
 }
 

@@ -11,7 +11,8 @@ use Rattle.lists.specs.Parts.{block, patch}
 use Rattle.floats.specs.Stations.{Piece, Cut, piecesFrom}
 use Rattle.boxes.specs.Boxes.{boxesApart}
 use Rattle.boxes.specs.Nets.{boxOf}
-use Rattle.knots.specs.Knots.{flatKnots, homogeneousPoles, between, breaksOf}
+use Rattle.poles.specs.Poles.{homogeneousPoles}
+use Rattle.knots.specs.Knots.{flatKnots, between, breaksOf}
 use Rattle.pieces.specs.Pieces.{netOf}
 use Rattle.curves.specs.Curves.{pieceCount, piecesOf}
 use Rattle.facts.specs.Faults.{Line, Question}

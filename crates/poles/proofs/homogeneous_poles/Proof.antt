@@ -7,9 +7,9 @@ use native.Mathlib.Omega.{arith}
 use lib.ListN.{length, take, drop}
 use borrow.Author.Needs.{needs}
 use Rattle.lists.proofs.Loops as loops
-use Rattle.knots.specs.Knots.{homogeneousOf, homogeneousPoles}
-use Rattle.knots.proofs.homogeneous_poles.Statement.{statement}
-use Rattle.knots.proofs.homogeneous_poles.Tie as tie
+use Rattle.poles.specs.Poles.{homogeneousOf, homogeneousPoles}
+use Rattle.poles.proofs.homogeneous_poles.Statement.{statement}
+use Rattle.poles.proofs.homogeneous_poles.Tie as tie
 
 abbrev Inv-loop : tie.InvT-loop
 Inv-loop coords weights n out₀ i₀ out i = (length out ≡ 4 * n) × (i ≤ n) × (take (4 * i) out ++ homogeneousPoles coords weights (n - i) i ≡ homogeneousPoles coords weights n 0)

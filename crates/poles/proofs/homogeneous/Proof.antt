@@ -1,9 +1,9 @@
 -- `homogeneous` is its definition. Assumes nothing.
 use mathlib.Core.Path.{refl}
 use borrow.Author.Needs.{needs}
-use Rattle.knots.specs.Knots.{homogeneousOf}
-use Rattle.knots.proofs.homogeneous.Statement.{statement}
-use Rattle.knots.proofs.homogeneous.Tie as tie
+use Rattle.poles.specs.Poles.{homogeneousOf}
+use Rattle.poles.proofs.homogeneous.Statement.{statement}
+use Rattle.poles.proofs.homogeneous.Tie as tie
 
 weight-requires : tie.Need-weight-requires
 weight-requires c κs = search needs

@@ -1,9 +1,9 @@
 -- `weight` is its definition, one case a return. Assumes nothing.
 use borrow.Author.Needs.{needs}
 use borrow.Author.Tests.{le-ltb, lt-ltb}
-use Rattle.knots.specs.Knots.{weightOf}
-use Rattle.knots.proofs.weight.Statement.{statement}
-use Rattle.knots.proofs.weight.Tie as tie
+use Rattle.poles.specs.Poles.{weightOf}
+use Rattle.poles.proofs.weight.Statement.{statement}
+use Rattle.poles.proofs.weight.Tie as tie
 
 mul-result : tie.Need-mul-result
 mul-result c = search needs
