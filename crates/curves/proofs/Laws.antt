@@ -2,22 +2,17 @@
 use mathlib.Core.Path.{_≡_, refl, sym, ap, _∙_}
 use mathlib.Core.List.{List}
 use Prim.Native.Nat.{ℕ, _+_, _-_, _*_, _≤_}
-use native.Mathlib.Omega.{arith}
-use lib.ListN.{length, take, drop, length-take, length-drop}
+use lib.ListN.{length, take}
 use lib.Seq.{length-take-le}
 use lib.Ieee.{Float}
-use Rattle.lists.specs.Parts.{part, patch}
+use Rattle.lists.specs.Parts.{patch}
 use Rattle.pieces.specs.Pieces.{netsOf}
-use Rattle.lists.proofs.Parts.{part-is, lent-length}
 
 pub length-of : (n : ℕ) (b l : List Float) → n ≤ length b → take n b ≡ l → length l ≡ n
 length-of n b l h e = sym (ap length e) ∙ length-take-le n b h
 
 pub room-of : {l l' : List Float} (k m : ℕ) → l ≡ l' → (length l' - 1) * k ≤ m → (length l - 1) * k ≤ m
 room-of k m e h = rw e h
-
-pub piece-is : {A : Type 0} (a n : ℕ) (xs : List A) → a + n ≤ length xs → (take (a + n - a) (drop a xs) ≡ part a n xs) × (length (take (a + n - a) (drop a xs)) ≡ n)
-piece-is a n xs h = (part-is a n xs, lent-length a n xs h)
 
 -- the same at an equal degree
 pub fits : {d p : ℕ} (n m : ℕ) → d ≡ p → n * (4 * (p + 1)) ≤ m → n * (4 * (d + 1)) ≤ m

@@ -2,7 +2,7 @@
 ghost use mathlib.Core.Path.{_≡_};
 ghost use Prim.Native.Nat.{_+_, _-_, _*_, _/_, _≤_};
 ghost use lib.ListN.{length};
-ghost use Rattle.lists.specs.Parts.{block, patch};
+ghost use Rattle.lists.specs.Parts.{patch};
 ghost use Rattle.lines.specs.declared.Admission.the-variants.{Admitted};
 ghost use Rattle.lines.specs.Admit.{admitOf};
 ghost use Rattle.poles.specs.Poles.{homogeneousPoles};
@@ -94,14 +94,4 @@ pub fn curve_pieces(
         hi,
         out,
     );
-}
-
-// Piece `i` of nets of `width` points, read as a part: `CurvePieces::piece`.
-pub fn piece(points: &[f64], i: usize, width: usize) -> &[f64]
-    requires { ⌜ (width ≤ 26) × (i ≤ 128) × (i * (4 * width) + 4 * width ≤ length (now points)) ⌝ }
-    ensures { λ r. ⌜ (now r ≡ block (4 * width) i (now (points .entry))) × (length (now r) ≡ 4 * width) ⌝ }
-{
-    let from = i * (4 * width);
-    let to = from + 4 * width;
-    &points[from..to]
 }

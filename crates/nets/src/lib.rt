@@ -66,7 +66,7 @@ pub fn copy_slot(s: &mut [f64], k: usize, w: usize)
     }
 }
 
-// Slot k of a slice of nets of w points.
+// Slot k of a slice of nets of w points, read as a part: a node's net, or piece k of a line, `CurvePieces::piece`.
 pub fn slot<'a>(s: &'a [f64], k: usize, w: usize) -> &'a [f64]
     requires { ⌜ (k + 1) * (4 * w) ≤ length (now s) ⌝ }
     ensures { λ r. ⌜ now r ≡ block (4 * w) k (now (s .entry)) ⌝ }

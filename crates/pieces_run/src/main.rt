@@ -298,7 +298,7 @@ fn print_nets(line: u64, n: usize, width: usize, nets: &[f64])
 {
     let mut i = 0;
     while i < n {
-        print_net(line, i as u64, curves::piece(nets, i, width));
+        print_net(line, i as u64, nets::slot(nets, i, width));
         i += 1;
     }
 }

@@ -1,9 +1,7 @@
 -- `print_nets` is safe and ends: each piece lies within. Assumes nothing.
-use Prim.Native.Nat.{_-_, _*_, _≤_}
-use native.Mathlib.Omega.{arith}
-use lib.ListN.{length}
+use Prim.Native.Nat.{_+_, _-_, _*_, _≤_}
+use native.Mathlib.Nat.{le-trans, mul-le-mul-right}
 use borrow.Author.Needs.{needs}
-use Rattle.pieces.proofs.Laws as laws
 use Rattle.pieces_run.proofs.print_nets.Statement.{statement}
 use Rattle.pieces_run.proofs.print_nets.Tie as tie
 
@@ -16,11 +14,12 @@ abbrev μ-loop : tie.MeasureT-loop
 loop-holds : tie.Need-loop-holds Inv-loop μ-loop
 loop-holds c = search needs
 
-piece-requires : tie.Need-piece-requires Inv-loop μ-loop
-piece-requires c κs =
+slot-requires : tie.Need-slot-requires Inv-loop μ-loop
+slot-requires c κs =
     let a = c .before .before .before .args in
     let i = c .before .loop .i in
-    (c .before .before .before .pre .0, omega arith, laws.room (a .n) i (4 * a .width) (length (a .nets .now)) (search needs) (c .before .before .before .pre .2))
+    let h : i + 1 ≤ a .n = search needs in
+    le-trans (mul-le-mul-right (4 * a .width) h) (c .before .before .before .pre .2)
 
 print-net-requires : tie.Need-print-net-requires Inv-loop μ-loop
 print-net-requires c κs = search needs
@@ -44,7 +43,7 @@ print-nets-spec =
     Inv-loop
     μ-loop
     loop-holds
-    piece-requires
+    slot-requires
     print-net-requires
     add-i
     loop-less
