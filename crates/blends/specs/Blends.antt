@@ -8,7 +8,7 @@ use lib.Ieee.{Float, binary64, add, sub, mul, div, neg, nan}
 use Rattle.floats.specs.Floats.{zero64, one64}
 use Rattle.points.specs.declared.Point4D.{Point4D}
 
--- one blend of `bezier_matrix`, (1 − α) × a + α × b: Q_i = α_i P_i + (1 − α_i) P_(i−1) of The NURBS Book, eq. (5.15), in the Rust's order of operations
+-- one blend of `bezier_matrix`, (1 − α) × a + α × b: Q_i = α_i P_i + (1 − α_i) P_(i−1) of knot insertion (The NURBS Book, chapter 5), in the Rust's order of operations
 unfoldable pub mixOf : Float → Float → Float → Float
 mixOf α a b = add binary64 (mul binary64 (sub binary64 one64 α) a) (mul binary64 α b)
 
@@ -16,7 +16,7 @@ mixOf α a b = add binary64 (mul binary64 (sub binary64 one64 α) a) (mul binary
 unfoldable pub knotOf : ℕ → Float → List Float → ℕ → Float
 knotOf p u near m = cond (ltb m p) (neg (sub binary64 u (getD near m nan))) (sub binary64 (getD near m nan) u)
 
--- `alpha` of `bezier_matrix`, level r + 1 and j = r + i + 1 there: the factor (u − u_i) / (u_(i+p−r+1) − u_i) of The NURBS Book, eq. (5.15) repeated as in Algorithm A5.1,
+-- `alpha` of `bezier_matrix`, level r + 1 and j = r + i + 1 there: the factor (u − u_i) / (u_(i+p−r+1) − u_i) of knot insertion repeated (The NURBS Book, Algorithm A5.1, CurveKnotIns),
 -- at x, by a product with the reciprocal
 unfoldable pub alphaOf : ℕ → Float → List Float → Float → ℕ → ℕ → Float
 alphaOf p u near x r i =

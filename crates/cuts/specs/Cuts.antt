@@ -1,4 +1,4 @@
--- A Bezier net of points of four numbers, cut to a part of its range (`restrict`) by the de Casteljau algorithm: The NURBS Book, eq. (1.10) and Algorithm A1.5, in the Rust's order of operations. Definitions only.
+-- A Bezier net of points of four numbers, cut to a part of its range (`restrict`) by the de Casteljau algorithm (The NURBS Book, Algorithm A1.5, deCasteljau1), in the Rust's order of operations. Definitions only.
 use Prim.Native.Nat.{ℕ}
 use mathlib.Core.Bool.{cond}
 use mathlib.Core.List.{List}
