@@ -251,14 +251,11 @@ fn answer_second(
     let mut mults = word_room();
     let mut coords = float_room();
     let mut weights = float_room();
+    walks::read_line(s, l, &mut knots, &mut mults, &mut coords, &mut weights);
     let k = l.knots.count;
     let m = l.mults.count;
     let c = 3 * l.poles.count;
     let w = l.weights.count;
-    walks::read_floats(s, l.knots.at, k, &mut knots);
-    walks::read_words(s, l.mults.at, m, &mut mults);
-    walks::read_floats(s, l.poles.at, c, &mut coords);
-    walks::read_floats(s, l.weights.at, w, &mut weights);
     answer_lines(
         q,
         degree1,
@@ -284,14 +281,11 @@ fn answer_first(s: &[u8], q: Question, l: Line, second: Line, out: &mut [u8]) ->
     let mut mults = word_room();
     let mut coords = float_room();
     let mut weights = float_room();
+    walks::read_line(s, l, &mut knots, &mut mults, &mut coords, &mut weights);
     let k = l.knots.count;
     let m = l.mults.count;
     let c = 3 * l.poles.count;
     let w = l.weights.count;
-    walks::read_floats(s, l.knots.at, k, &mut knots);
-    walks::read_words(s, l.mults.at, m, &mut mults);
-    walks::read_floats(s, l.poles.at, c, &mut coords);
-    walks::read_floats(s, l.weights.at, w, &mut weights);
     answer_second(
         s,
         q,

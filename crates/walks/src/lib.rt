@@ -8,7 +8,7 @@ ghost use lib.Ieee.{binary64, ofBits};
 ghost use Rattle.lists.specs.Parts.{patch};
 ghost use Rattle.walks.specs.Words.{wordAt, floatAt, wordsFrom, floatsFrom};
 ghost use Rattle.walks.specs.Sheets.{walked, badCount, badLength, sizeOf, partOf, weightsOf, walkOf};
-ghost use Rattle.walks.specs.Places.{unless, sheetIn, PartFits, LineFits, SheetInside};
+ghost use Rattle.walks.specs.Places.{unless, sheetIn, LineInside, PartFits, LineFits, SheetInside};
 
 // A counted part: the number that refuses the sheet or 0, the count in its word, where it starts, and the place behind it.
 pub struct Part {
@@ -92,6 +92,25 @@ pub fn read_words(s: &[u8], at: usize, n: usize, out: &mut [u32])
         out[i] = word(s, at + 4 * i);
         i += 1;
     }
+}
+
+// The four parts of a line, each read to the front of its slice.
+pub fn read_line(
+    s: &[u8],
+    l: Line,
+    knots: &mut [f64],
+    mults: &mut [u32],
+    coords: &mut [f64],
+    weights: &mut [f64],
+)
+    requires { ⌜ LineInside (length (now s)) l × (length (now s) ≤ 16384) ⌝ }
+    requires { ⌜ (l .knots .count ≤ length (now knots)) × (l .mults .count ≤ length (now mults)) × (3 * l .poles .count ≤ length (now coords)) × (l .weights .count ≤ length (now weights)) ⌝ }
+    ensures { λ r. ⌜ (now (knots .exit) ≡ patch (now (knots .entry)) 0 (floatsFrom (now (s .entry)) (l .knots .at) (l .knots .count))) × (now (mults .exit) ≡ patch (now (mults .entry)) 0 (wordsFrom (now (s .entry)) (l .mults .at) (l .mults .count))) × (now (coords .exit) ≡ patch (now (coords .entry)) 0 (floatsFrom (now (s .entry)) (l .poles .at) (3 * l .poles .count))) × (now (weights .exit) ≡ patch (now (weights .entry)) 0 (floatsFrom (now (s .entry)) (l .weights .at) (l .weights .count))) ⌝ }
+{
+    read_floats(s, l.knots.at, l.knots.count, knots);
+    read_words(s, l.mults.at, l.mults.count, mults);
+    read_floats(s, l.poles.at, 3 * l.poles.count, coords);
+    read_floats(s, l.weights.at, l.weights.count, weights);
 }
 
 // Whether a word of this kind may not have this count.

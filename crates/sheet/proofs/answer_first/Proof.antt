@@ -25,65 +25,62 @@ float-room-requires-2 c κs = search needs
 float-room-requires-3 : tie.Need-float-room-requires-3
 float-room-requires-3 c κs = search needs
 
+slice-aggregate-read-line : tie.Need-slice-aggregate-read-line
+slice-aggregate-read-line c = search needs
+
+slice-aggregate-read-line-2 : tie.Need-slice-aggregate-read-line-2
+slice-aggregate-read-line-2 c = search needs
+
+slice-aggregate-read-line-3 : tie.Need-slice-aggregate-read-line-3
+slice-aggregate-read-line-3 c = search needs
+
+slice-aggregate-read-line-4 : tie.Need-slice-aggregate-read-line-4
+slice-aggregate-read-line-4 c = search needs
+
+read-line-requires : tie.Need-read-line-requires
+read-line-requires c κs = search needs
+
 mul-c : tie.Need-mul-c
 mul-c c = search needs
 
-slice-aggregate-read-floats : tie.Need-slice-aggregate-read-floats
-slice-aggregate-read-floats c = search needs
-
-read-floats-requires : tie.Need-read-floats-requires
-read-floats-requires c κs = search needs
-
-slice-aggregate-read-words : tie.Need-slice-aggregate-read-words
-slice-aggregate-read-words c = search needs
-
-read-words-requires : tie.Need-read-words-requires
-read-words-requires c κs = search needs
-
-slice-aggregate-read-floats-2 : tie.Need-slice-aggregate-read-floats-2
-slice-aggregate-read-floats-2 c = search needs
-
-read-floats-requires-2 : tie.Need-read-floats-requires-2
-read-floats-requires-2 c κs = search needs
-
-slice-aggregate-read-floats-3 : tie.Need-slice-aggregate-read-floats-3
-slice-aggregate-read-floats-3 c = search needs
-
-read-floats-requires-3 : tie.Need-read-floats-requires-3
-read-floats-requires-3 c κs = search needs
-
 array-share-prefix-knots : tie.Need-array-share-prefix-knots
-array-share-prefix-knots c = (omega (arith, c .before .before .before .before .before .before .before .before .before .before .read-floats .kept .1 .1 .1 .0, c .before .before .before .before .before .before .before .before .before .before .before .before .before .before .before .before .float-room .ensures, c .before .before .before .before .before .before .before .before .before .before .before .before .before .before .before .before .before .before .before .pre .1, c .before .before .before .before .before .before .before .before .before .before .before .before .before .before .before .before .before .before .before .pre .2 .knots))
+array-share-prefix-knots c = search needs
 
 slice-aggregate-answer-second : tie.Need-slice-aggregate-answer-second
-slice-aggregate-answer-second c = sym (length-take-le (c .before .before .before .before .before .before .before .before .before .before .before .before .before .before .before .before .before .before .before .before .args .l .knots .count) (c .before .before .before .before .before .before .before .before .before .before .before .read-floats .last .1 .1 .1 .0) (omega (arith, c .before .before .before .before .before .before .before .before .before .before .before .read-floats .kept .1 .1 .1 .0, c .before .before .before .before .before .before .before .before .before .before .before .before .before .before .before .before .before .float-room .ensures, c .before .before .before .before .before .before .before .before .before .before .before .before .before .before .before .before .before .before .before .before .pre .1, c .before .before .before .before .before .before .before .before .before .before .before .before .before .before .before .before .before .before .before .before .pre .2 .knots)))
+slice-aggregate-answer-second c = sym (length-take-le (c .before .before .before .before .before .before .before .before .before .before .before .before .before .before .before .before .before .args .l .knots .count) (c .before .before .before .before .before .before .read-line .last .1 .1 .0) (omega (arith, c .before .before .before .before .before .before .read-line .kept .1 .1 .0, c .before .before .before .before .before .before .before .before .before .before .before .before .before .before .float-room .ensures, c .before .before .before .before .before .before .before .before .before .before .before .before .before .before .before .before .before .pre .1, c .before .before .before .before .before .before .before .before .before .before .before .before .before .before .before .before .before .pre .2 .knots)))
 
 array-share-prefix-mults : tie.Need-array-share-prefix-mults
-array-share-prefix-mults c = (omega (arith, c .before .before .before .before .before .before .before .before .read-words .kept .1 .1 .1 .0, c .before .before .before .before .before .before .before .before .before .before .before .before .before .before .before .before .word-room .ensures, c .before .before .before .before .before .before .before .before .before .before .before .before .before .before .before .before .before .before .before .before .pre .1, c .before .before .before .before .before .before .before .before .before .before .before .before .before .before .before .before .before .before .before .before .pre .2 .mults))
+array-share-prefix-mults c = search needs
 
 slice-aggregate-answer-second-2 : tie.Need-slice-aggregate-answer-second-2
-slice-aggregate-answer-second-2 c = sym (length-take-le (c .before .before .before .before .before .before .before .before .before .before .before .before .before .before .before .before .before .before .before .before .before .args .l .mults .count) (c .before .before .before .before .before .before .before .before .before .read-words .last .1 .1 .1 .0) (omega (arith, c .before .before .before .before .before .before .before .before .before .read-words .kept .1 .1 .1 .0, c .before .before .before .before .before .before .before .before .before .before .before .before .before .before .before .before .before .word-room .ensures, c .before .before .before .before .before .before .before .before .before .before .before .before .before .before .before .before .before .before .before .before .before .pre .1, c .before .before .before .before .before .before .before .before .before .before .before .before .before .before .before .before .before .before .before .before .before .pre .2 .mults)))
+slice-aggregate-answer-second-2 c = sym (length-take-le (c .before .before .before .before .before .before .before .before .before .before .before .before .before .before .before .before .before .before .args .l .mults .count) (c .before .before .before .before .before .before .before .read-line .last .1 .1 .1 .0) (omega (arith, c .before .before .before .before .before .before .before .read-line .kept .1 .1 .1 .0, c .before .before .before .before .before .before .before .before .before .before .before .before .before .before .word-room .ensures, c .before .before .before .before .before .before .before .before .before .before .before .before .before .before .before .before .before .before .pre .1, c .before .before .before .before .before .before .before .before .before .before .before .before .before .before .before .before .before .before .pre .2 .mults)))
 
 array-share-prefix-coords : tie.Need-array-share-prefix-coords
-array-share-prefix-coords c = (omega (arith, c .before .before .before .before .before .before .read-floats2 .kept .1 .1 .1 .0, c .before .before .before .before .before .before .before .before .before .before .before .before .before .before .before .before .float-room2 .ensures, c .before .before .before .before .before .before .before .before .before .before .before .before .before .before .before .before .before .before .before .before .before .pre .1, c .before .before .before .before .before .before .before .before .before .before .before .before .before .before .before .before .before .before .before .before .before .pre .2 .poles))
+array-share-prefix-coords c = search needs
 
 slice-aggregate-answer-second-3 : tie.Need-slice-aggregate-answer-second-3
-slice-aggregate-answer-second-3 c = sym (length-take-le (3 * c .before .before .before .before .before .before .before .before .before .before .before .before .before .before .before .before .before .before .before .before .before .before .args .l .poles .count) (c .before .before .before .before .before .before .before .read-floats2 .last .1 .1 .1 .0) (omega (arith, c .before .before .before .before .before .before .before .read-floats2 .kept .1 .1 .1 .0, c .before .before .before .before .before .before .before .before .before .before .before .before .before .before .before .before .before .float-room2 .ensures, c .before .before .before .before .before .before .before .before .before .before .before .before .before .before .before .before .before .before .before .before .before .before .pre .1, c .before .before .before .before .before .before .before .before .before .before .before .before .before .before .before .before .before .before .before .before .before .before .pre .2 .poles)))
+slice-aggregate-answer-second-3 c = sym (length-take-le (3 * c .before .before .before .before .before .before .before .before .before .before .before .before .before .before .before .before .before .before .before .args .l .poles .count) (c .before .before .before .before .before .before .before .before .read-line .last .1 .1 .1 .1 .0) (omega (arith, c .before .before .before .before .before .before .before .before .read-line .kept .1 .1 .1 .1 .0, c .before .before .before .before .before .before .before .before .before .before .before .before .before .before .float-room2 .ensures, c .before .before .before .before .before .before .before .before .before .before .before .before .before .before .before .before .before .before .before .pre .1, c .before .before .before .before .before .before .before .before .before .before .before .before .before .before .before .before .before .before .before .pre .2 .poles)))
 
 array-share-prefix-weights : tie.Need-array-share-prefix-weights
-array-share-prefix-weights c = (omega (arith, c .before .before .before .before .read-floats3 .kept .1 .1 .1 .0, c .before .before .before .before .before .before .before .before .before .before .before .before .before .before .before .before .float-room3 .ensures, c .before .before .before .before .before .before .before .before .before .before .before .before .before .before .before .before .before .before .before .before .before .before .pre .1, c .before .before .before .before .before .before .before .before .before .before .before .before .before .before .before .before .before .before .before .before .before .before .pre .2 .weights))
+array-share-prefix-weights c = search needs
 
 slice-aggregate-answer-second-4 : tie.Need-slice-aggregate-answer-second-4
-slice-aggregate-answer-second-4 c = sym (length-take-le (c .before .before .before .before .before .before .before .before .before .before .before .before .before .before .before .before .before .before .before .before .before .before .before .args .l .weights .count) (c .before .before .before .before .before .read-floats3 .last .1 .1 .1 .0) (omega (arith, c .before .before .before .before .before .read-floats3 .kept .1 .1 .1 .0, c .before .before .before .before .before .before .before .before .before .before .before .before .before .before .before .before .before .float-room3 .ensures, c .before .before .before .before .before .before .before .before .before .before .before .before .before .before .before .before .before .before .before .before .before .before .before .pre .1, c .before .before .before .before .before .before .before .before .before .before .before .before .before .before .before .before .before .before .before .before .before .before .before .pre .2 .weights)))
+slice-aggregate-answer-second-4 c = sym (length-take-le (c .before .before .before .before .before .before .before .before .before .before .before .before .before .before .before .before .before .before .before .before .args .l .weights .count) (c .before .before .before .before .before .before .before .before .before .read-line .last .1 .1 .1 .1 .1 .0) (omega (arith, c .before .before .before .before .before .before .before .before .before .read-line .kept .1 .1 .1 .1 .1 .0, c .before .before .before .before .before .before .before .before .before .before .before .before .before .before .float-room3 .ensures, c .before .before .before .before .before .before .before .before .before .before .before .before .before .before .before .before .before .before .before .before .pre .1, c .before .before .before .before .before .before .before .before .before .before .before .before .before .before .before .before .before .before .before .before .pre .2 .weights)))
 
 answer-second-requires : tie.Need-answer-second-requires
-answer-second-requires c κs = (c .before .before .before .before .before .before .before .before .before .before .before .before .before .before .before .before .before .before .before .before .before .before .before .before .pre .0, c .before .before .before .before .before .before .before .before .before .before .before .before .before .before .before .before .before .before .before .before .before .before .before .before .pre .1, c .before .before .before .before .before .before .before .before .before .before .before .before .before .before .before .before .before .before .before .before .before .before .before .before .pre .3)
+answer-second-requires c κs = search needs
 
 same-length : tie.Need-same-length
 same-length c = search needs
 
 returns : tie.Need-returns
-returns c = moved (c .before .before .before .before .before .before .before .before .before .before .before .before .before .before .before .before .before .before .before .before .before .before .before .before .before .before .before .args .out .now) _ _ (ap (λ (z : Line). linesText (questionOf (c .before .before .before .before .before .before .before .before .before .before .before .before .before .before .before .before .before .before .before .before .before .before .before .before .before .before .before .args .q) z (lineIn (walkedLine (c .before .before .before .before .before .before .before .before .before .before .before .before .before .before .before .before .before .before .before .before .before .before .before .before .before .before .before .args .s .now) (c .before .before .before .before .before .before .before .before .before .before .before .before .before .before .before .before .before .before .before .before .before .before .before .before .before .before .before .args .second))))) (line-read (c .before .before .before .before .before .before .before .before .before .before .before .before .before .before .before .before .before .before .before .before .before .before .before .before .before .before .before .args .s .now) (c .before .before .before .before .before .before .before .before .before .before .before .before .before .before .before .before .before .before .before .before .before .before .before .before .before .before .before .args .l) (c .before .before .before .before .before .before .before .before .before .before .before .before .before .before .before .before .before .before .before .before .before .before .before .before .float-room .result) (c .before .before .before .before .before .before .before .before .before .before .before .before .before .before .before .before .before .before .before .before .before .before .float-room2 .result) (c .before .before .before .before .before .before .before .before .before .before .before .before .before .before .before .before .before .before .before .before .before .float-room3 .result) (c .before .before .before .before .before .before .before .before .before .before .before .before .before .before .before .before .before .before .before .before .before .before .before .word-room .result) (c .before .before .before .before .before .before .before .before .before .before .before .before .before .before .before .before .before .before .read-floats .ensures) (c .before .before .before .before .before .before .before .before .before .before .before .before .before .before .before .read-words .ensures) (c .before .before .before .before .before .before .before .before .before .before .before .before .read-floats2 .ensures) (c .before .before .before .before .before .before .before .before .before .read-floats3 .ensures))) (c .before .before .answer-second .ensures)
+returns c =
+    let a = c .before .before .before .before .before .before .before .before .before .before .before .before .before .before .before .before .before .before .before .before .before .before .before .before .args in
+    let e = c .before .before .before .before .before .before .before .before .before .before .before .before .before .read-line .ensures in
+    moved (a .out .now) _ _
+    (ap (λ (z : Line). linesText (questionOf (a .q) z (lineIn (walkedLine (a .s .now) (a .second)))))
+    (line-read (a .s .now) (a .l) (c .before .before .before .before .before .before .before .before .before .before .before .before .before .before .before .before .before .before .before .before .before .float-room .result) (c .before .before .before .before .before .before .before .before .before .before .before .before .before .before .before .before .before .before .before .float-room2 .result) (c .before .before .before .before .before .before .before .before .before .before .before .before .before .before .before .before .before .before .float-room3 .result) (c .before .before .before .before .before .before .before .before .before .before .before .before .before .before .before .before .before .before .before .before .word-room .result) (e .0) (e .1) (e .2) (e .3)))
+    (c .before .before .answer-second .ensures)
 
 pub answer-first-spec : {M : Type 1} → statement M
 answer-first-spec =
@@ -93,15 +90,12 @@ answer-first-spec =
     word-room-requires
     float-room-requires-2
     float-room-requires-3
+    slice-aggregate-read-line
+    slice-aggregate-read-line-2
+    slice-aggregate-read-line-3
+    slice-aggregate-read-line-4
+    read-line-requires
     mul-c
-    slice-aggregate-read-floats
-    read-floats-requires
-    slice-aggregate-read-words
-    read-words-requires
-    slice-aggregate-read-floats-2
-    read-floats-requires-2
-    slice-aggregate-read-floats-3
-    read-floats-requires-3
     array-share-prefix-knots
     slice-aggregate-answer-second
     array-share-prefix-mults
