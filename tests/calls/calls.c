@@ -9,39 +9,19 @@
  *
  * A list begins with openings until one isn't refused. Then come steps with
  * any verdict, own verdicts, runs and reports. A call may be lent too short a
- * start of a slice; in two lists of three states are forged, and in one of
- * three the memory too. Prints counts of each kind of call by number, and
+ * start of a slice, too few words of a state, or a word beyond its width; in
+ * two lists of three states are forged, and in one of three the memory too. Prints counts of each kind of call by number, and
  * differences; exits 1 if there is one.
  *
  * Free: the bits of a NaN, and the sign of a zero least or greatest.
  * Left out, as 01 says nothing of it: NaN in ranges (how it sorts).
  */
 #include "../model/calls.c"
-#include <stdbool.h>
+#include "lovgurshem.h"
 #include <stdlib.h>
 
 /* ---- the library ------------------------------------------------------- */
 
-#define STATE uint16_t, uint16_t, uint32_t, uint64_t, uint32_t, uint32_t, \
-    uint32_t, uint32_t, uint8_t, uint8_t, double, bool
-#define IN const double *, size_t
-#define OUT double *, size_t
-
-uint32_t clearance_open(double, double, double, double, double, uint32_t,
-    uint32_t, IN, const uint32_t *, size_t, IN, IN,
-    uint32_t, IN, const uint32_t *, size_t, IN, IN,
-    OUT, OUT, OUT, OUT, OUT, uint8_t *, size_t, IN, uint64_t *, size_t, double *);
-uint32_t clearance_own_verdict(STATE, IN, IN, const uint8_t *, size_t);
-uint32_t clearance_step(uint8_t, STATE, OUT, OUT, OUT, uint8_t *, size_t, OUT,
-    uint64_t *, size_t, double *);
-uint32_t clearance_run(STATE, OUT, OUT, OUT, uint8_t *, size_t, OUT,
-    uint64_t *, size_t, double *);
-uint32_t clearance_report(STATE, IN, IN, IN, const uint8_t *, size_t, OUT, OUT,
-    uint64_t *, size_t);
-
-#define FIELDS(s) (s)->pairs, (s)->quota, (s)->waiting, (s)->visits, \
-    (s)->splits, (s)->unspent, (s)->settled, (s)->given, (s)->width[0], \
-    (s)->width[1], (s)->gap, (s)->stopped
 #define PART(f) (f).at, (f).length
 
 /* ---- chance ------------------------------------------------------------ */
@@ -128,7 +108,7 @@ static const char *kind_name[] = { "open", "step Settled", "step Split", "step U
                                    "own verdict", "run", "report" };
 static uint64_t counts[KINDS][32], calls, differences, forged_calls, short_calls, forged_passed;
 static uint64_t list_number, call_number, lists_seed;
-static uint64_t halved[2], deep, stopped, merged_regions, raw_regions, wide_halvings, no_points;
+static uint64_t halved[2], deep, stopped, merged_regions, raw_regions, wide_halvings, no_points, no_words;
 
 static State last; /* the state of the last call */
 
@@ -177,17 +157,52 @@ static void compare_number(int kind, const char *what, uint64_t a, uint64_t b)
     if (a != b) differs(kind, what, (double)a, (double)b);
 }
 
-enum { UNTOUCHED = 0x5A5A };
+/* A state's words are lent with some behind them; these and, on a refusal, all
+ * stay as they were. */
+enum { UNTOUCHED = 0x5A5A, WORDS = LOVGURSHEM_STATE + 3 };
+static uint64_t words[WORDS], words_before[WORDS];
+static size_t words_lent;
 
-/* The words that the library wrote are the state's. */
-static void compare_state(int kind, const uint64_t *w, double gap, const State *s)
+static void state_words(const State *s, uint64_t *w)
 {
-    uint64_t m[12] = { s->pairs, s->quota, s->waiting, s->visits, s->splits, s->unspent,
-                       s->settled, s->given, s->width[0], s->width[1], (uint64_t)s->stopped, 0 };
+    uint64_t m[LOVGURSHEM_STATE] = { s->pairs, s->quota, s->waiting, s->visits, s->splits, s->unspent,
+                                     s->settled, s->given, s->width[0], s->width[1], (uint64_t)s->stopped };
+    memcpy(w, m, sizeof m);
+}
+
+/* The words that a call gets. Some calls get too few, or a word beyond its
+ * width: then the answer is 19 (answers whether it is). */
+static int hand_words(const State *s)
+{
+    static const uint64_t most[LOVGURSHEM_STATE] = { 0xFFFF, 0xFFFF, 0xFFFFFFFF, 0, 0xFFFFFFFF, 0xFFFFFFFF, 0xFFFFFFFF, 0xFFFFFFFF, 0xFF, 0xFF, 1 };
+    int bad = 0;
+    for (int i = 0; i < WORDS; i++) words[i] = UNTOUCHED;
+    if (s) state_words(s, words);
+    words_lent = one_in(3) ? LOVGURSHEM_STATE : WORDS;
+    if (one_in(30)) {
+        words_lent = below(LOVGURSHEM_STATE);
+        bad = 1;
+    }
+    if (s && one_in(30)) {
+        uint64_t i = below(LOVGURSHEM_STATE);
+        if (i != 3) {
+            words[i] = one_in(2) ? most[i] + 1 : one_in(2) ? UINT64_MAX - below(9) : words[i] + ((most[i] + 1) << below(16));
+            if (words[i] <= most[i]) words[i] = most[i] + 1;
+            bad = 1;
+        }
+    }
+    memcpy(words_before, words, sizeof words);
+    no_words += (uint64_t)bad;
+    return bad;
+}
+
+/* The words are the state's, or with no state as they were. */
+static void compare_words(int kind, const State *s)
+{
     static const char *name[] = { "pairs", "quota", "waiting", "visits", "splits", "unspent",
-                                  "settled", "given", "width1", "width2", "stopped", "last word" };
-    for (int i = 0; i < 12; i++) compare_number(kind, name[i], w[i], m[i]);
-    if (!same_bits(gap, s->gap) && !(gap != gap && s->gap != s->gap)) differs(kind, "gap", gap, s->gap);
+                                  "settled", "given", "width1", "width2", "stopped", "word behind", "word behind", "word behind" };
+    if (s) state_words(s, words_before);
+    for (int i = 0; i < WORDS; i++) compare_number(kind, name[i], words[i], words_before[i]);
 }
 
 static void count(int kind, int number)
@@ -228,21 +243,20 @@ static void choose_lent(const State *s)
 
 static void do_step(State *s, Verdict v)
 {
-    static const uint8_t code[] = { 0, 1, 2 };
-    int kind = SETTLE + (int)v, no, was_top;
-    uint64_t words[12];
-    double gap = 777.0;
+    int kind = SETTLE + (int)v, no, was_top, bad;
     State old = *s;
     Lent *a = &lent[0], *b = &lent[1];
     choose_lent(s);
-    for (int i = 0; i < 12; i++) words[i] = UNTOUCHED;
+    bad = hand_words(s);
     was_top = s->waiting > 0 && s->waiting <= depth_cap ? model.depths[s->waiting - 1] : 0;
-    uint32_t got = clearance_step(v == UNSEPARATED && one_in(4) ? (uint8_t)(2 + below(254)) : code[v],
-        FIELDS(s), PART(a->nets[0]), PART(a->nets[1]), PART(a->ranges), PART(a->depths), PART(a->raw), words, 12, &gap);
-    no = call_step(s, v, b);
+    uint8_t handed = (uint8_t)(v + 1);
+    if (v == UNSEPARATED && one_in(4)) handed = one_in(8) ? 0 : (uint8_t)(3 + below(253));
+    uint32_t got = lovgurshem_step(handed, words, words_lent, s->gap,
+        PART(a->nets[0]), PART(a->nets[1]), PART(a->ranges), PART(a->depths), PART(a->raw));
+    no = bad ? 19 : call_step(s, v, b);
     compare_number(kind, "answer", got, (uint64_t)no);
+    compare_words(kind, no == 0 ? s : NULL);
     if (no == 0) {
-        compare_state(kind, words, gap, s);
         if (s->splits > old.splits) {
             size_t top = 4 * (size_t)(old.waiting - 1);
             double *r = model.f[RANGES] + top;
@@ -252,9 +266,6 @@ static void do_step(State *s, Verdict v)
         deep += v == SPLIT && was_top == 64;
         stopped += s->stopped && !old.stopped;
         no_points += s->width[0] == 0 || s->width[1] == 0;
-    } else {
-        compare_number(kind, "words written", words[0], UNTOUCHED);
-        if (gap != 777.0) differs(kind, "gap written", gap, 777.0);
     }
     count(kind, no);
     compare_worlds(kind, 0);
@@ -269,62 +280,64 @@ static int untold(const State *s)
 static void do_own(const State *s)
 {
     Verdict v = SETTLED;
-    int no;
+    int no, bad;
     Lent *a = &lent[0];
     if (untold(s)) return;
     choose_lent(s);
-    uint32_t got = clearance_own_verdict(FIELDS(s), PART(a->nets[0]), PART(a->nets[1]), PART(a->depths));
-    no = call_own_verdict(s, &lent[1], &v);
+    bad = hand_words(s);
+    uint32_t got = lovgurshem_own_verdict(words, words_lent, s->gap, PART(a->nets[0]), PART(a->nets[1]), PART(a->depths));
+    no = bad ? 19 : call_own_verdict(s, &lent[1], &v);
     compare_number(OWN, "answer", got, no ? (uint64_t)no : (uint64_t)v + 1);
+    compare_words(OWN, NULL);
     count(OWN, no ? no : (int)v + 1);
     compare_worlds(OWN, 0);
 }
 
 static void do_run(State *s)
 {
-    uint64_t words[12];
-    double gap = 777.0;
-    int no;
+    int no, bad;
     State next = *s;
     Lent *a = &lent[0];
     if (untold(s)) return;
     choose_lent(s);
-    for (int i = 0; i < 12; i++) words[i] = UNTOUCHED;
-    uint32_t got = clearance_run(FIELDS(s), PART(a->nets[0]), PART(a->nets[1]), PART(a->ranges),
-        PART(a->depths), PART(a->raw), words, 12, &gap);
-    no = call_run(&next, &lent[1]);
+    bad = hand_words(s);
+    uint32_t got = lovgurshem_run(words, words_lent, s->gap, PART(a->nets[0]), PART(a->nets[1]), PART(a->ranges),
+        PART(a->depths), PART(a->raw));
+    no = bad ? 19 : call_run(&next, &lent[1]);
     compare_number(RUN, "answer", got, (uint64_t)no);
-    if (no == 0) {
-        compare_state(RUN, words, gap, &next);
-        *s = next;
-    } else {
-        compare_number(RUN, "words written", words[0], UNTOUCHED);
-    }
+    compare_words(RUN, no == 0 ? &next : NULL);
+    if (no == 0) *s = next;
     count(RUN, no);
     compare_worlds(RUN, 0);
 }
 
 static void do_report(const State *s)
 {
-    uint64_t words[9];
+    uint64_t told[LOVGURSHEM_COUNTS + 1], m[LOVGURSHEM_COUNTS + 1];
+    size_t told_lent = LOVGURSHEM_COUNTS + below(2);
     Told t = { 0, 0 };
-    int no;
+    int no, bad;
     Lent *a = &lent[0];
     choose_lent(s);
-    for (int i = 0; i < 9; i++) words[i] = UNTOUCHED;
-    uint32_t got = clearance_report(FIELDS(s), PART(a->nets[0]), PART(a->nets[1]), PART(a->ranges),
-        PART(a->depths), PART(a->raw), PART(a->report), words, 9);
-    no = call_report(s, &lent[1], &t);
+    bad = hand_words(s);
+    if (one_in(30)) {
+        told_lent = below(LOVGURSHEM_COUNTS);
+        bad = 1;
+    }
+    for (int i = 0; i <= LOVGURSHEM_COUNTS; i++) told[i] = m[i] = UNTOUCHED;
+    uint32_t got = lovgurshem_report(words, words_lent, s->gap, PART(a->nets[0]), PART(a->nets[1]), PART(a->ranges),
+        PART(a->depths), PART(a->raw), PART(a->report), told, told_lent);
+    no = bad ? 19 : call_report(s, &lent[1], &t);
     compare_number(TELL, "answer", got, (uint64_t)no);
+    compare_words(TELL, NULL);
     if (no == 0) {
-        uint64_t m[9] = { (uint64_t)t.word, s->pairs, s->visits, s->splits, s->settled, s->given, s->waiting, s->unspent, t.regions };
-        static const char *name[] = { "word", "pairs", "visits", "splits", "settled", "given", "left", "unspent", "regions" };
-        for (int i = 0; i < 9; i++) compare_number(TELL, name[i], words[i], m[i]);
+        uint64_t now[LOVGURSHEM_COUNTS] = { (uint64_t)t.word, s->pairs, s->visits, s->splits, s->settled, s->given, s->waiting, s->unspent, t.regions };
+        memcpy(m, now, sizeof now);
         merged_regions += t.regions;
         raw_regions += (uint64_t)s->given + s->waiting;
-    } else {
-        compare_number(TELL, "words written", words[0], UNTOUCHED);
     }
+    static const char *name[] = { "word", "pairs", "visits", "splits", "settled", "given", "left", "unspent", "regions", "count behind" };
+    for (int i = 0; i <= LOVGURSHEM_COUNTS; i++) compare_number(TELL, name[i], told[i], m[i]);
     count(TELL, no);
     compare_worlds(TELL, t.regions);
     /* zeros of free sign stay free in the report slice afterwards */
@@ -397,8 +410,6 @@ static int do_open(State *s, int spoil)
     double range[2][2], gap = one_in(2) ? 0.0 : one_in(2) ? (double)below(5) * 0.25 : fabs(fine());
     static const uint32_t quota[] = { 0, 1, 2, 3, 5, 9, 20, 40, 100, 256 };
     uint32_t splits = quota[below(10)];
-    uint64_t words[12];
-    double open_gap = 777.0;
     size_t n[SLICES + 1];
     for (int i = 0; i < 2; i++) {
         Given *g = &d[i].given;
@@ -432,19 +443,16 @@ static int do_open(State *s, int spoil)
     }
     lent[0] = lend(&lib, n, n[SLICES]);
     lent[1] = lend(&model, n, n[SLICES]);
-    for (int i = 0; i < 12; i++) words[i] = UNTOUCHED;
+    int bad = hand_words(NULL);
     Lent *a = &lent[0];
 #define LINE(g) (g).degree, (g).knots, (g).knot_count, (g).mults, (g).mult_count, (g).coords, (g).coord_count, (g).weights, (g).weight_count
-    uint32_t got = clearance_open(range[0][0], range[0][1], range[1][0], range[1][1], gap, splits,
+    uint32_t got = lovgurshem_open(range[0][0], range[0][1], range[1][0], range[1][1], gap, splits,
         LINE(d[0].given), LINE(d[1].given), PART(a->pieces[0]), PART(a->pieces[1]), PART(a->nets[0]), PART(a->nets[1]),
-        PART(a->ranges), PART(a->depths), PART(a->raw), words, 12, &open_gap);
+        PART(a->ranges), PART(a->depths), PART(a->raw), words, words_lent);
     Given both[2] = { d[0].given, d[1].given };
-    int no = call_open(both, (const double (*)[2])range, gap, splits, &lent[1], s);
+    int no = bad ? 19 : call_open(both, (const double (*)[2])range, gap, splits, &lent[1], s);
     compare_number(OPEN, "answer", got, (uint64_t)no);
-    if (no == 0)
-        compare_state(OPEN, words, open_gap, s);
-    else
-        compare_number(OPEN, "words written", words[0], UNTOUCHED);
+    compare_words(OPEN, no == 0 ? s : NULL);
     count(OPEN, no & 255);
     compare_worlds(OPEN, 0);
     return no;
@@ -636,8 +644,8 @@ int main(int argc, char **argv)
         chance_state = lists_seed * 0x9E3779B97F4A7C15 + list_number * 0xD1B54A32D192ED03;
         one_list(least_calls, most_calls);
     }
-    printf("lists %lu, calls %lu, with a forged state %lu (%lu of them a step or report that wasn't refused), with a slice cut short %lu\n",
-           (unsigned long)lists, (unsigned long)calls, (unsigned long)forged_calls, (unsigned long)forged_passed, (unsigned long)short_calls);
+    printf("lists %lu, calls %lu, with a forged state %lu (%lu of them a step or report that wasn't refused), with a slice cut short %lu, with words that are no state's %lu\n",
+           (unsigned long)lists, (unsigned long)calls, (unsigned long)forged_calls, (unsigned long)forged_passed, (unsigned long)short_calls, (unsigned long)no_words);
     for (int k = 0; k < KINDS; k++) {
         printf("%s:", kind_name[k]);
         for (int i = 0; i < 32; i++)

@@ -1,7 +1,7 @@
 #!/usr/bin/env python3
 """Each of these mistakes in tests/model/calls.c must show as a difference from the library: the random lists would find it there too.
 
-  edits.py [SEED LISTS]     needs a C compiler and target/staticlib/libexports.a
+  edits.py [SEED LISTS]     needs a C compiler and target/staticlib/liblovgurshem.a
 """
 import pathlib
 import subprocess
@@ -75,8 +75,8 @@ def main():
             if text.count(old) != 1:
                 sys.exit(f'{name}: the old text occurs {text.count(old)} times')
             (top / 'model/calls.c').write_text(text.replace(old, new))
-            subprocess.run(['cc', '-O2', '-std=c99', '-w', '-ffp-contract=off', '-o', top / 'run', top / 'calls/calls.c',
-                            ROOT / 'target/staticlib/libexports.a', '-lm'], check=True)
+            subprocess.run(['cc', '-O2', '-std=c99', '-w', '-ffp-contract=off', '-I', ROOT / 'include', '-o', top / 'run', top / 'calls/calls.c',
+                            ROOT / 'target/staticlib/liblovgurshem.a', '-lm'], check=True)
             out = subprocess.run([top / 'run', seed, lists], stdout=subprocess.PIPE, text=True).returncode
             if out == 0:
                 print(f'not found: {name}', flush=True)

@@ -8,7 +8,7 @@ ghost use lib.ListN.{length};
 ghost use Rattle.lists.specs.Tests.{every, eachTwo, total};
 ghost use Rattle.floats.specs.Floats.{within};
 ghost use Rattle.lines.specs.declared.Admission.the-variants.{Admitted};
-ghost use Rattle.lines.specs.Admit.{tooLarge, validateDirection, validatePoles, admitOf};
+ghost use Rattle.lines.specs.Admit.{admissionNumber, tooLarge, validateDirection, validatePoles, admitOf};
 
 // Why a line is refused, or that it isn't. `BSplineConstructionError` names five of the cases.
 pub enum Admission {
@@ -24,6 +24,26 @@ pub enum Admission {
     WeightCountMismatch,
     WeightOutOfRange,
     CoordinateOutOfRange,
+}
+
+// The table's number of a fault; 0 for an admitted line.
+pub fn admission_number(a: Admission) -> u8
+    ensures { λ r. ⌜ r ≡ admissionNumber a ⌝ }
+{
+    match a {
+        Admission::Admitted => 0,
+        Admission::InvalidDegree => 4,
+        Admission::KnotCount => 5,
+        Admission::KnotOutOfRange => 6,
+        Admission::KnotsNotIncreasing => 7,
+        Admission::MultiplicityTooLarge => 8,
+        Admission::ZeroMultiplicity => 9,
+        Admission::PoleCountMismatch => 10,
+        Admission::PoleCountOutOfRange => 11,
+        Admission::WeightCountMismatch => 12,
+        Admission::WeightOutOfRange => 13,
+        Admission::CoordinateOutOfRange => 14,
+    }
 }
 
 fn all_within(s: &[f64], lo: f64, hi: f64) -> bool

@@ -6,8 +6,7 @@ ghost use mathlib.Core.Path.{_≡_};
 ghost use Prim.Native.Nat.{_+_, _*_, _<_, _≤_, _^_};
 ghost use lib.ListN.{length};
 ghost use Rattle.lines.specs.declared.Admission.the-variants.{Admitted};
-ghost use Rattle.lines.specs.Admit.{admissionNumber, admitOf};
-ghost use Rattle.questions.specs.Questions.{askedNumber, askedLine};
+ghost use Rattle.lines.specs.Admit.{admitOf};
 use libc::STDIN_FILENO;
 use libc::STDOUT_FILENO;
 use lines::Admission;
@@ -199,54 +198,11 @@ fn read_words(out: &mut [u32]) -> bool
     got == n
 }
 
-fn admission_number(a: Admission) -> u64
-    ensures { λ r. ⌜ r ≡ admissionNumber a ⌝ }
-{
-    match a {
-        Admission::Admitted => 0,
-        Admission::InvalidDegree => 4,
-        Admission::KnotCount => 5,
-        Admission::KnotOutOfRange => 6,
-        Admission::KnotsNotIncreasing => 7,
-        Admission::MultiplicityTooLarge => 8,
-        Admission::ZeroMultiplicity => 9,
-        Admission::PoleCountMismatch => 10,
-        Admission::PoleCountOutOfRange => 11,
-        Admission::WeightCountMismatch => 12,
-        Admission::WeightOutOfRange => 13,
-        Admission::CoordinateOutOfRange => 14,
-    }
-}
-
-fn asked_number(a: Asked) -> u64
-    ensures { λ r. ⌜ r ≡ askedNumber a ⌝ }
-{
-    match a {
-        Asked::Fine => 0,
-        Asked::RangeOutOfBounds(_) => 15,
-        Asked::GapOutOfRange => 16,
-        Asked::TooManySplits => 17,
-        Asked::BreaksTooClose(_) => 18,
-    }
-}
-
-fn asked_line(a: Asked) -> u8
-    ensures { λ r. ⌜ r ≡ askedLine a ⌝ }
-{
-    match a {
-        Asked::Fine => 0,
-        Asked::RangeOutOfBounds(line) => line,
-        Asked::GapOutOfRange => 0,
-        Asked::TooManySplits => 0,
-        Asked::BreaksTooClose(line) => line,
-    }
-}
-
-fn print_refusal(number: u64, line: u64) {
+fn print_refusal(number: u8, line: u8) {
     io::write_all(STDOUT_FILENO, b"refused ");
-    io::print_decimal(STDOUT_FILENO, number);
+    io::print_decimal(STDOUT_FILENO, wide(number));
     io::write_all(STDOUT_FILENO, b" ");
-    io::print_decimal(STDOUT_FILENO, line);
+    io::print_decimal(STDOUT_FILENO, wide(line));
     io::write_all(STDOUT_FILENO, b"\n");
 }
 
@@ -342,12 +298,12 @@ fn answer(
 ) {
     let a = lines::admit(degree1, knots1, mults1, coords1, weights1);
     let Admission::Admitted = a else {
-        print_refusal(admission_number(a), 1);
+        print_refusal(lines::admission_number(a), 1);
         return;
     };
     let b = lines::admit(degree2, knots2, mults2, coords2, weights2);
     let Admission::Admitted = b else {
-        print_refusal(admission_number(b), 2);
+        print_refusal(lines::admission_number(b), 2);
         return;
     };
     let q = questions::ask(
@@ -369,7 +325,7 @@ fn answer(
         splits,
     );
     let Asked::Fine = q else {
-        print_refusal(asked_number(q), wide(asked_line(q)));
+        print_refusal(questions::asked_number(q), questions::asked_line(q));
         return;
     };
     print_pieces(1, degree1, knots1, mults1, coords1, weights1, lo1, hi1);

@@ -6,7 +6,7 @@ ghost use Rattle.lists.specs.Tests.{eachTwo};
 ghost use Rattle.lines.specs.declared.Admission.the-variants.{Admitted};
 ghost use Rattle.lines.specs.Admit.{admitOf};
 ghost use Rattle.knots.specs.Knots.{boundsOf, breaksOf};
-ghost use Rattle.questions.specs.Questions.{rangeFits, parted, askWithin, askOf};
+ghost use Rattle.questions.specs.Questions.{askedNumber, askedLine, rangeFits, parted, askWithin, askOf};
 
 // Why a question is refused, or that it is fine. A number 1 or 2 is the line at fault.
 pub enum Asked {
@@ -15,6 +15,32 @@ pub enum Asked {
     GapOutOfRange,
     TooManySplits,
     BreaksTooClose(u8),
+}
+
+// The table's number of what is wrong; 0 for a question that is fine.
+pub fn asked_number(a: Asked) -> u8
+    ensures { λ r. ⌜ r ≡ askedNumber a ⌝ }
+{
+    match a {
+        Asked::Fine => 0,
+        Asked::RangeOutOfBounds(line) => 15,
+        Asked::GapOutOfRange => 16,
+        Asked::TooManySplits => 17,
+        Asked::BreaksTooClose(line) => 18,
+    }
+}
+
+// The line at fault, or 0.
+pub fn asked_line(a: Asked) -> u8
+    ensures { λ r. ⌜ r ≡ askedLine a ⌝ }
+{
+    match a {
+        Asked::Fine => 0,
+        Asked::RangeOutOfBounds(line) => line,
+        Asked::GapOutOfRange => 0,
+        Asked::TooManySplits => 0,
+        Asked::BreaksTooClose(line) => line,
+    }
 }
 
 // Whether a range rises and lies inside a line's bounds.

@@ -3,66 +3,17 @@ ghost use mathlib.Core.Path.{_≡_};
 ghost use Prim.Native.Nat.{_+_, _≤_};
 ghost use lib.ListN.{length};
 ghost use Rattle.lists.specs.Parts.{patch};
-ghost use Rattle.lines.specs.Admit.{admissionNumber};
-ghost use Rattle.questions.specs.Questions.{askedNumber, askedLine};
 ghost use Rattle.opening.specs.Opens.{lineOf, questionOf};
 ghost use Rattle.states.specs.States.{memory};
 ghost use Rattle.walks.specs.Places.{lineIn as walkedLine, LineInside};
 ghost use Rattle.sheet.specs.Answers.{zeros, zeroDepths, reportText, searchText, linesText, lineIn, askingAt, answerOf, answerLength, answerIn};
-use lines::Admission;
 use opening::Opened;
 use opening::Question;
-use questions::Asked;
 use report::Reported;
 use search::Stepped;
 use states::State;
 use walks::Line;
 use walks::Sheet;
-
-// ---- the numbers of refusals
-
-fn admission_number(a: Admission) -> u8
-    ensures { λ r. ⌜ r ≡ admissionNumber a ⌝ }
-{
-    match a {
-        Admission::Admitted => 0,
-        Admission::InvalidDegree => 4,
-        Admission::KnotCount => 5,
-        Admission::KnotOutOfRange => 6,
-        Admission::KnotsNotIncreasing => 7,
-        Admission::MultiplicityTooLarge => 8,
-        Admission::ZeroMultiplicity => 9,
-        Admission::PoleCountMismatch => 10,
-        Admission::PoleCountOutOfRange => 11,
-        Admission::WeightCountMismatch => 12,
-        Admission::WeightOutOfRange => 13,
-        Admission::CoordinateOutOfRange => 14,
-    }
-}
-
-fn asked_number(a: Asked) -> u8
-    ensures { λ r. ⌜ r ≡ askedNumber a ⌝ }
-{
-    match a {
-        Asked::Fine => 0,
-        Asked::RangeOutOfBounds(line) => 15,
-        Asked::GapOutOfRange => 16,
-        Asked::TooManySplits => 17,
-        Asked::BreaksTooClose(line) => 18,
-    }
-}
-
-fn asked_line(a: Asked) -> u8
-    ensures { λ r. ⌜ r ≡ askedLine a ⌝ }
-{
-    match a {
-        Asked::Fine => 0,
-        Asked::RangeOutOfBounds(line) => line,
-        Asked::GapOutOfRange => 0,
-        Asked::TooManySplits => 0,
-        Asked::BreaksTooClose(line) => line,
-    }
-}
 
 // ---- from a search to its text
 
@@ -197,8 +148,12 @@ fn answer_lines(
             &mut list,
             out,
         ),
-        Opened::BadLine(line, a) => printing::put_refusal(out, admission_number(a), line),
-        Opened::BadQuestion(a) => printing::put_refusal(out, asked_number(a), asked_line(a)),
+        Opened::BadLine(line, a) => printing::put_refusal(out, lines::admission_number(a), line),
+        Opened::BadQuestion(a) => printing::put_refusal(
+            out,
+            questions::asked_number(a),
+            questions::asked_line(a),
+        ),
         Opened::NoRoom => printing::put_refusal(out, 19, 0),
     }
 }

@@ -1,47 +1,32 @@
 -- Every sheet gets a refusal from 1 to 19 or a report. Assumes nothing.
-use mathlib.Core.Path.{_≡_, refl, ap, sym, _∙_, subst}
-use mathlib.Core.List.{List, _++_}
-use mathlib.Core.Bool.{Bool, true, false, not, _&&_, cond, false≢true}
+use mathlib.Core.Path.{_≡_, refl, ap, _∙_}
+use mathlib.Core.List.{List}
+use mathlib.Core.Bool.{Bool, true, false, not, _&&_, cond}
 use Prim.Native.Nat.{ℕ, suc, _+_, _*_, _≤_}
 use native.Mathlib.Omega.{arith}
 use lib.Dec.{ltb, eqb, lit≤}
-use lib.ListN.{length, length-replicate}
-use lib.Ieee.{Float}
-use Rattle.floats.specs.Floats.{zero64}
-use Rattle.lines.specs.declared.Admission.{Admission}
-use Rattle.lines.specs.declared.Admission.the-variants.{Admitted, InvalidDegree, KnotCount, KnotOutOfRange, KnotsNotIncreasing, MultiplicityTooLarge, ZeroMultiplicity, PoleCountMismatch, PoleCountOutOfRange, WeightCountMismatch, WeightOutOfRange, CoordinateOutOfRange}
-use Rattle.questions.specs.declared.Asked.{Asked as AskAnswer}
-use Rattle.questions.specs.declared.Asked.the-variants.{Fine, RangeOutOfBounds, GapOutOfRange, TooManySplits, BreaksTooClose}
-use Rattle.points.specs.declared.Interval.{Interval}
-use Rattle.lines.specs.Admit.{admissionNumber, two24}
-use Rattle.knots.specs.Knots.{breaksOf}
-use Rattle.questions.specs.Questions.{askedNumber, askedLine, rangeFits, parted, askWithin}
-use Rattle.lists.specs.Tests.{eachTwo}
-use Rattle.floats.specs.Floats.{within}
-use Rattle.facts.specs.Faults.{Question, admission, asked}
+use lib.ListN.{length}
+use Rattle.lines.specs.Admit.{admissionNumber}
+use Rattle.questions.specs.Questions.{askedNumber, askedLine}
+use Rattle.facts.specs.Faults.{Question}
 use Rattle.regions.specs.declared.Word.{Word}
-use Rattle.regions.specs.declared.Word.the-variants.{Complete}
 use Rattle.states.specs.declared.State.{State}
-use Rattle.states.specs.declared.Counts.{Counts}
-use Rattle.states.specs.States.{Memory, sizes, needed, enough}
+use Rattle.states.specs.States.{Memory, sizes}
 use Rattle.search.specs.declared.Stepped.{Stepped}
-use Rattle.search.specs.declared.Stepped.the-variants.{Next}
 use Rattle.nodes.specs.Nets.{geometry}
 use Rattle.search.specs.Runs.{runDef}
 use Rattle.report.specs.declared.Reported.{Reported}
 use Rattle.report.specs.declared.Reported.the-variants.{Told}
-use Rattle.report.specs.Reports.{Reporting, reportDef}
+use Rattle.report.specs.Reports.{reportDef}
 use Rattle.opening.specs.declared.Opened.{Opened}
 use Rattle.opening.specs.declared.Opened.the-variants.{Open, BadLine, BadQuestion, NoRoom}
-use Rattle.opening.specs.Asked.{start, stateOf}
-use Rattle.opening.specs.Opens.{searchFor, isAdmitted, isFine, piecesFit, Pushing, pushing, Opening, opening, openPieces, openDef}
-use Rattle.coverage.specs.Complete.{Ends, Reports, Clear}
+use Rattle.opening.specs.Opens.{searchFor, Opening, openDef}
+use Rattle.opening.proofs.Numbers.{Numbered, opening-numbered}
 use Rattle.coverage.proofs.Refine.{room-of}
 use Rattle.coverage.proofs.Demand3.{opened-fresh}
 use Rattle.coverage.proofs.Complete.{loop-ends, complete-is-clear, loop-reports}
 use Rattle.walks.specs.Words.{wordAt, kindOf, countOf}
 use Rattle.walks.specs.Sheets.{Line, Sheet, Walked, walked, refusedAs, badLength, badCount, sizeOf, partOf, weightsOf, lineOf, walkOf}
-use Rattle.printing.specs.Printed.{countLine, regionLines, refusalLine}
 use Rattle.sheet.specs.Answers.{zeros, lent, reportedText, reportText, steppedText, searchText, openedText, linesText, questionIn, walkedText, answerOf}
 use Rattle.whole.specs.Whole.{Printed, refused, reported, Whole}
 
@@ -87,69 +72,6 @@ module _ (s : List ℕ) where
       by : (b : Bool) (w : Walked) → Few w → Few (cond b (refusedAs 1) w)
       by true w h = (lit≤ tt, lit≤ tt)
       by false w h = h
-
--- ---- the opening refuses with 4 to 19
-abbrev Numbered : Opened → Type 0
-Numbered (Open x) = Unit {0}
-Numbered (BadLine line a) = (1 ≤ admissionNumber a) × (admissionNumber a ≤ 19) × (line ≤ 2)
-Numbered (BadQuestion a) = (1 ≤ askedNumber a) × (askedNumber a ≤ 19) × (askedLine a ≤ 2)
-Numbered NoRoom = Unit {0}
-
-bad-line : (a : Admission) → isAdmitted a ≡ false → (1 ≤ admissionNumber a) × (admissionNumber a ≤ 19)
-bad-line Admitted e = absurd (false≢true (sym e))
-bad-line InvalidDegree e = (lit≤ tt, lit≤ tt)
-bad-line KnotCount e = (lit≤ tt, lit≤ tt)
-bad-line KnotOutOfRange e = (lit≤ tt, lit≤ tt)
-bad-line KnotsNotIncreasing e = (lit≤ tt, lit≤ tt)
-bad-line MultiplicityTooLarge e = (lit≤ tt, lit≤ tt)
-bad-line ZeroMultiplicity e = (lit≤ tt, lit≤ tt)
-bad-line PoleCountMismatch e = (lit≤ tt, lit≤ tt)
-bad-line PoleCountOutOfRange e = (lit≤ tt, lit≤ tt)
-bad-line WeightCountMismatch e = (lit≤ tt, lit≤ tt)
-bad-line WeightOutOfRange e = (lit≤ tt, lit≤ tt)
-bad-line CoordinateOutOfRange e = (lit≤ tt, lit≤ tt)
-
-bad-question : (a : AskAnswer) → isFine a ≡ false → (1 ≤ askedNumber a) × (askedNumber a ≤ 19)
-bad-question Fine e = absurd (false≢true (sym e))
-bad-question (RangeOutOfBounds line) e = (lit≤ tt, lit≤ tt)
-bad-question GapOutOfRange e = (lit≤ tt, lit≤ tt)
-bad-question TooManySplits e = (lit≤ tt, lit≤ tt)
-bad-question (BreaksTooClose line) e = (lit≤ tt, lit≤ tt)
-
-line-within : (b1 : Interval) (k1 : List Float) (l1 h1 : Float) (b2 : Interval) (k2 : List Float) (l2 h2 gap : Float) (n : ℕ) → askedLine (askWithin b1 k1 l1 h1 b2 k2 l2 h2 gap n) ≤ 2
-unfolding askWithin
-line-within b1 k1 l1 h1 b2 k2 l2 h2 gap n =
-    go (not (rangeFits b1 l1 h1)) (not (rangeFits b2 l2 h2)) (not (within zero64 two24 gap)) (ltb 256 n) (not (eachTwo parted (breaksOf l1 h1 k1))) (not (eachTwo parted (breaksOf l2 h2 k2)))
-  where
-    go : (a b c d e f : Bool) → askedLine (cond a (RangeOutOfBounds 1) (cond b (RangeOutOfBounds 2) (cond c GapOutOfRange (cond d TooManySplits (cond e (BreaksTooClose 1) (cond f (BreaksTooClose 2) Fine)))))) ≤ 2
-    go true b c d e f = lit≤ tt
-    go false true c d e f = lit≤ tt
-    go false false true d e f = lit≤ tt
-    go false false false true e f = lit≤ tt
-    go false false false false true f = lit≤ tt
-    go false false false false false true = lit≤ tt
-    go false false false false false false = lit≤ tt
-
-pieces-numbered : (q : Question) (p1 p2 : List Float) (u : Memory) → Numbered (openPieces q p1 p2 u .answer)
-pieces-numbered q p1 p2 u = go (enough (needed (stateOf (searchFor q) (start (searchFor q)))) (sizes u)) _ _
-  where
-    go : (b : Bool) (x : State) (m : Memory) → Numbered (cond {A = Pushing} b (pushing (Open x) m) (pushing NoRoom u) .answer)
-    go true x m = tt
-    go false x m = tt
-
-opening-numbered : (q : Question) (p1 p2 : List Float) (u : Memory) → Numbered (openDef q p1 p2 u .answer)
-opening-numbered q p1 p2 u =
-    go (isAdmitted (admission (q .line1))) (isAdmitted (admission (q .line2))) (isFine (asked q)) (piecesFit q p1 p2) (bad-line (admission (q .line1))) (bad-line (admission (q .line2))) (bad-question (asked q))
-    (line-within _ _ _ _ _ _ _ _ _ _) (pieces-numbered q p1 p2 u)
-  where
-    go : (a b c d : Bool) → (a ≡ false → (1 ≤ admissionNumber (admission (q .line1))) × (admissionNumber (admission (q .line1)) ≤ 19)) → (b ≡ false → (1 ≤ admissionNumber (admission (q .line2))) × (admissionNumber (admission (q .line2)) ≤ 19))
-        → (c ≡ false → (1 ≤ askedNumber (asked q)) × (askedNumber (asked q) ≤ 19)) → askedLine (asked q) ≤ 2 → Numbered (openPieces q p1 p2 u .answer)
-        → Numbered (cond {A = Opening} a (cond b (cond c (cond d (openPieces q p1 p2 u) (opening NoRoom p1 p2 u)) (opening (BadQuestion (asked q)) p1 p2 u)) (opening (BadLine 2 (admission (q .line2))) p1 p2 u)) (opening (BadLine 1 (admission (q .line1))) p1 p2 u) .answer)
-    go true true true true f g h l o = o
-    go true true true false f g h l o = tt
-    go true true false d f g h l o = (h refl .0, h refl .1, l)
-    go true false c d f g h l o = (g refl .0, g refl .1, lit≤ tt)
-    go false b c d f g h l o = (f refl .0, f refl .1, lit≤ tt)
 
 -- ---- an open search: the loop ends, and its report is printed
 raw-room : (q : Question) (x : State) → openDef q (zeros 8112) (zeros 8112) lent .answer ≡ Open x → x .pairs * suc (x .quota) * 10 ≤ length (zeros 8190)

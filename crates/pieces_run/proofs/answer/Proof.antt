@@ -46,9 +46,6 @@ asked-number-requires c κs = search needs
 asked-line-requires : tie.Need-asked-line-requires
 asked-line-requires c κs = search needs
 
-wide-requires : tie.Need-wide-requires
-wide-requires c κs = search needs
-
 print-refusal-requires-3 : tie.Need-print-refusal-requires-3
 print-refusal-requires-3 c κs = search needs
 
@@ -82,7 +79,6 @@ answer-spec =
     enum-told-3
     asked-number-requires
     asked-line-requires
-    wide-requires
     print-refusal-requires-3
     returns-3
     print-pieces-requires

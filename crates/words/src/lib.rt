@@ -1,0 +1,146 @@
+// A state as eleven words of 64 bits, the gap beside them, and verdicts as numbers: how other programs hand them over.
+ghost use mathlib.Core.Path.{_≡_};
+ghost use mathlib.Core.Bool.{true};
+ghost use Prim.Native.Nat.{_≤_};
+ghost use lib.ListN.{length};
+ghost use Rattle.lists.specs.Parts.{patch};
+ghost use Rattle.words.specs.Words.{flagOf, wordsOf, stateOf, isState, Within, verdictNumber, verdictOf};
+use states::State;
+use verdicts::Verdict;
+
+// ---- a state as words
+
+// Whether the words are a state's: eleven or more, each within its field's width.
+pub fn is_state(w: &[u64]) -> bool
+    ensures { λ r. ⌜ r ≡ isState (now (w .entry)) ⌝ }
+{
+    if w.len() < 11 {
+        return false;
+    }
+    if w[0] > 65535 {
+        return false;
+    }
+    if w[1] > 65535 {
+        return false;
+    }
+    if w[2] > 4294967295 {
+        return false;
+    }
+    if w[4] > 4294967295 {
+        return false;
+    }
+    if w[5] > 4294967295 {
+        return false;
+    }
+    if w[6] > 4294967295 {
+        return false;
+    }
+    if w[7] > 4294967295 {
+        return false;
+    }
+    if w[8] > 255 {
+        return false;
+    }
+    if w[9] > 255 {
+        return false;
+    }
+    w[10] <= 1
+}
+
+pub fn read_state(w: &[u64], gap: f64) -> State
+    requires { ⌜ Within (now w) ⌝ }
+    ensures { λ r. ⌜ r ≡ stateOf (now (w .entry)) gap ⌝ }
+{
+    State {
+        pairs: w[0] as u16,
+        quota: w[1] as u16,
+        waiting: w[2] as u32,
+        visits: w[3],
+        splits: w[4] as u32,
+        unspent: w[5] as u32,
+        settled: w[6] as u32,
+        given: w[7] as u32,
+        width1: w[8] as u8,
+        width2: w[9] as u8,
+        gap,
+        stopped: w[10] == 1,
+    }
+}
+
+fn flag(b: bool) -> u64
+    ensures { λ r. ⌜ r ≡ flagOf b ⌝ }
+{
+    if b {
+        return 1;
+    }
+    0
+}
+
+fn wide(x: u8) -> u64
+    ensures { λ r. ⌜ r ≡ x ⌝ }
+{
+    x as u64
+}
+
+fn state_words(st: State) -> [u64; 11]
+    ensures { λ r. ⌜ (r ≡ wordsOf st) × (isState (wordsOf st) ≡ true) ⌝ }
+{
+    [
+        st.pairs as u64,
+        st.quota as u64,
+        st.waiting as u64,
+        st.visits,
+        st.splits as u64,
+        st.unspent as u64,
+        st.settled as u64,
+        st.given as u64,
+        wide(st.width1),
+        wide(st.width2),
+        flag(st.stopped),
+    ]
+}
+
+// Words over the first of `w`.
+pub fn put_words(words: &[u64], w: &mut [u64])
+    requires { ⌜ length (now words) ≤ length (now w) ⌝ }
+    ensures { λ _. ⌜ now (w .exit) ≡ patch (now (w .entry)) 0 (now (words .entry)) ⌝ }
+{
+    let mut i = 0usize;
+    while i < words.len() {
+        w[i] = words[i];
+        i += 1;
+    }
+}
+
+pub fn put_state(st: State, w: &mut [u64])
+    requires { ⌜ 11 ≤ length (now w) ⌝ }
+    ensures { λ _. ⌜ (now (w .exit) ≡ patch (now (w .entry)) 0 (wordsOf st)) × (isState (now (w .exit)) ≡ true) ⌝ }
+{
+    let words = state_words(st);
+    put_words(&words, w);
+}
+
+// ---- verdicts as numbers
+
+pub fn verdict_number(v: Verdict) -> u32
+    ensures { λ r. ⌜ r ≡ verdictNumber v ⌝ }
+{
+    match v {
+        Verdict::Settled => 1,
+        Verdict::Split => 2,
+        Verdict::Unseparated => 3,
+    }
+}
+
+// 1 is Settled, 2 Split, every other number Unseparated.
+pub fn verdict_of(n: u8) -> Verdict
+    ensures { λ r. ⌜ r ≡ verdictOf n ⌝ }
+{
+    if n == 1 {
+        return Verdict::Settled;
+    }
+    if n == 2 {
+        return Verdict::Split;
+    }
+    Verdict::Unseparated
+}

@@ -1,0 +1,114 @@
+/*
+ * A dredge track searched against an outfall, step by step, and then a whole
+ * sheet answered. Prints the report as the program clearance prints it.
+ *
+ *   search SHEET     SHEET a file as the program clearance reads it
+ *
+ * Built with: cc -std=c99 -I include examples/c/search.c target/staticlib/liblovgurshem.a
+ */
+#include "lovgurshem.h"
+#include <inttypes.h>
+#include <stdio.h>
+#include <string.h>
+
+#define COUNT(a) (sizeof (a) / sizeof *(a))
+#define SLICE(a) (a), COUNT(a)
+
+/* The track: degree 3, nine spans. The outfall: degree 2, three spans. */
+static const double track_knots[] = { 0, 1, 2, 3, 4, 5, 6, 7, 8, 9 };
+static const uint32_t track_mults[] = { 4, 1, 1, 1, 1, 1, 1, 1, 1, 4 };
+static const double track_coords[] = {
+    5, 12, -12, 41.5, 18.25, -12, 78, 21.5, -12.5, 112.75, 14, -13,
+    149, 3.5, -13.25, 185.5, -2.25, -13.5, 221, 1.75, -13.75, 258.25, 10.5, -14,
+    296, 16, -14, 333.5, 13.25, -13.5, 369.75, 6, -13, 403, 2.5, -12.75,
+};
+static const double outfall_knots[] = { 0, 1, 2, 3 };
+static const uint32_t outfall_mults[] = { 3, 1, 1, 3 };
+static const double outfall_coords[] = {
+    214, 88, -9.5, 216.5, 60, -11, 219, 38, -12.5, 221, 19, -13.5, 222.5, 6.5, -14.25,
+};
+static const double gap = 5.0;
+
+/* What the search needs: P is at most 9 x 3 pairs of pieces, S is 64. */
+enum { PIECES1 = 9, PIECES2 = 3, PAIRS = PIECES1 * PIECES2, NODES = PAIRS + 64, SPLITS = 64, WIDTH1 = 4, WIDTH2 = 3 };
+static double pieces1[4 * WIDTH1 * PIECES1], pieces2[4 * WIDTH2 * PIECES2];
+static double nets1[4 * WIDTH1 * NODES], nets2[4 * WIDTH2 * NODES], ranges[4 * NODES];
+static double raw[10 * PAIRS * (SPLITS + 1)], report[10 * PAIRS * (SPLITS + 1)];
+static uint8_t depths[NODES];
+static uint64_t state[LOVGURSHEM_STATE], counts[LOVGURSHEM_COUNTS];
+
+static uint32_t open_search(void)
+{
+    static const double none[1]; /* weights: none, so each is 1 */
+    return lovgurshem_open(0.0, 9.0, 0.0, 3.0, gap, SPLITS,
+        3, SLICE(track_knots), SLICE(track_mults), SLICE(track_coords), none, 0,
+        2, SLICE(outfall_knots), SLICE(outfall_mults), SLICE(outfall_coords), none, 0,
+        SLICE(pieces1), SLICE(pieces2), SLICE(nets1), SLICE(nets2), SLICE(ranges), SLICE(depths), SLICE(raw), SLICE(state));
+}
+
+/* Each step gets the search's own verdict. Answers 20, the end, or a refusal. */
+static uint32_t take_steps(void)
+{
+    for (;;) {
+        uint32_t verdict = lovgurshem_own_verdict(SLICE(state), gap, SLICE(nets1), SLICE(nets2), SLICE(depths));
+        if (verdict > LOVGURSHEM_UNSEPARATED) return verdict;
+        uint32_t no = lovgurshem_step((uint8_t)verdict, SLICE(state), gap,
+            SLICE(nets1), SLICE(nets2), SLICE(ranges), SLICE(depths), SLICE(raw));
+        if (no != 0) return no;
+    }
+}
+
+/* The bits of a double; zeros as +0. */
+static uint64_t bits(double x)
+{
+    uint64_t b;
+    memcpy(&b, &x, sizeof b);
+    return x == 0.0 ? 0 : b;
+}
+
+static void print_report(void)
+{
+    static const char *word[] = { "complete", "budget", "unseparated" };
+    printf("%s pairs=%" PRIu64 " visits=%" PRIu64 " splits=%" PRIu64 " settled=%" PRIu64 " given=%" PRIu64 " left=%" PRIu64 " regions=%" PRIu64 "\n",
+           word[counts[0]], counts[1], counts[2], counts[3], counts[4], counts[5], counts[6], counts[8]);
+    for (uint64_t i = 0; i < counts[8]; i++) {
+        printf("region");
+        for (int j = 0; j < 10; j++) printf(" %016" PRIX64, bits(report[10 * i + j]));
+        printf("\n");
+    }
+}
+
+static int answer_sheet(const char *path)
+{
+    static uint8_t sheet[16388], answer[LOVGURSHEM_ANSWER];
+    FILE *f = fopen(path, "rb");
+    if (!f) return 1;
+    size_t n = fread(sheet, 1, sizeof sheet, f);
+    fclose(f);
+    size_t m = lovgurshem_answer(sheet, n, SLICE(answer));
+    return fwrite(answer, 1, m, stdout) != m;
+}
+
+int main(int argc, char **argv)
+{
+    uint32_t no;
+    if (argc != 2) {
+        fprintf(stderr, "usage: search SHEET\n");
+        return 2;
+    }
+    no = open_search();
+    if (no != 0) {
+        printf("refused %u %u\n", (unsigned)(no % 256), (unsigned)(no / 256));
+        return 1;
+    }
+    no = take_steps();
+    if (no == 20)
+        no = lovgurshem_report(SLICE(state), gap, SLICE(nets1), SLICE(nets2), SLICE(ranges), SLICE(depths),
+            SLICE(raw), SLICE(report), SLICE(counts));
+    if (no != 0) {
+        printf("refused %u 0\n", (unsigned)no);
+        return 1;
+    }
+    print_report();
+    return answer_sheet(argv[1]);
+}

@@ -1,0 +1,199 @@
+/*
+ * Lovgurshem: the clearance search of two B-spline lines, for programs in C
+ * and in languages that call C. Link with target/staticlib/liblovgurshem.a
+ * (`rt staticlib lovgurshem`; 64-bit Linux on x86-64).
+ *
+ * What this header says of a function is proved of it: its answer and the
+ * contents of every slice afterwards follow from what was handed in by one
+ * equation, refusals included (crates/lovgurshem/src/lib.rt). What a caller
+ * must see to stands under "Slices", "State" and "Floats".
+ *
+ * SLICES. A slice is two arguments, a pointer to its first element and the
+ * count of its elements. A pointer isn't NULL, also where the count is 0, and
+ * is aligned for its element; the memory behind it is the caller's, readable,
+ * and writable where the pointer isn't const. Slices that are written overlap
+ * no other slice of the same call. Any count is taken: a slice that is too
+ * short is a refusal, and what lies behind the count is neither read nor
+ * written. No pointer is kept after the call, nothing is allocated, and there
+ * is no global data: calls on different memory may run at the same time.
+ *
+ * FLOATS are IEEE 754 doubles in the default environment: rounding to nearest,
+ * ties to even, subnormals kept (a program linked for fast, inexact math turns
+ * these off). Any double is taken, NaN too.
+ *
+ * STACK. lovgurshem_answer wants 600 KB of stack, lovgurshem_open 64 KB, the
+ * others 16 KB. Beside the C library's memcpy, memmove and memset nothing is called.
+ *
+ * NUMBERS. Answers of open, step, run and report are 0, or the number of the
+ * refusal: 4 to 14 a line's fault, 15 to 18 the question's, 19 a slice that is
+ * shorter than needed or a state that is no search's, 20 a search that has
+ * ended, 21 one that hasn't. A line's fault, range or breaks (4 to 15 and 18)
+ * have 256 times the line, 1 or 2, added.
+ *
+ * STATE. A search's state is LOVGURSHEM_STATE words and the gap, which the
+ * caller hands to each call as it handed it to the opening. The words are the
+ * starting pairs P, the splits per pair S, nodes waiting, visits, splits,
+ * allowance left, nodes settled, nodes given up, the points of a net of the
+ * first line and of the second, and whether the search was stopped: 16, 16,
+ * 32, 64, 32, 32, 32, 32, 8, 8 and 1 bits. The state and the lent memory
+ * (nets, ranges, depths, raw) belong together: carry both on from call to call
+ * as the last one left them. Then each call reads the state that the last one
+ * answered. Fewer words, or a word beyond its width, is number 19, before
+ * anything else and with nothing written; words behind the eleventh are left
+ * alone.
+ *
+ * SIZES, in elements, for P starting pairs, S splits per pair and
+ * width = degree + 1 of a line:
+ *   pieces of a line   4 * width for each piece (a piece lies between two
+ *                      neighbours of lo, the knots strictly between, and hi)
+ *   nets of a line     4 * width * (P + 64)
+ *   ranges             4 * (P + 64)
+ *   depths             P + 64
+ *   raw, report        10 * P * (S + 1) each
+ * P is at most the product of the two counts of pieces, and known after the
+ * opening. A step, a run or a report that is lent a shorter slice is number 19
+ * and changes nothing; lent enough, the next call goes on.
+ */
+#ifndef LOVGURSHEM_H
+#define LOVGURSHEM_H
+
+#include <stddef.h>
+#include <stdint.h>
+
+#ifdef __cplusplus
+extern "C" {
+#endif
+
+/* Words of a state, and of a report's counts. */
+#define LOVGURSHEM_STATE 11
+#define LOVGURSHEM_COUNTS 9
+
+/* Bytes of a buffer that every sheet's answer fits. */
+#define LOVGURSHEM_ANSWER 145169
+
+/* Verdicts, as own verdict answers them and as a step takes them. */
+#define LOVGURSHEM_SETTLED 1
+#define LOVGURSHEM_SPLIT 2
+#define LOVGURSHEM_UNSEPARATED 3
+
+/* The first of a report's counts. */
+#define LOVGURSHEM_COMPLETE 0
+#define LOVGURSHEM_BUDGET 1
+#define LOVGURSHEM_UNSEPARATED_WORD 2
+
+/*
+ * The answer to a sheet, byte for byte what the program clearance prints for
+ * it, written from the front of out; answers its length, which is never 0.
+ * With fewer than LOVGURSHEM_ANSWER bytes in out it writes nothing and answers
+ * 0. The rest of out stays as it was. Any bytes are answered: those that are
+ * no sheet with "refused" and a number.
+ */
+size_t lovgurshem_answer(const uint8_t *sheet, size_t sheet_length,
+    uint8_t *out, size_t out_length);
+
+/*
+ * Opens a search: the stretch lo1 to hi1 of the first line against lo2 to hi2
+ * of the second, for this gap, with at most so many splits per pair.
+ *
+ * A line is its degree, distinct knots, their multiplicities, three
+ * coordinates a pole, and one weight a pole; a count of 0 weights means that
+ * every weight is 1.
+ *
+ * Refused in this order: 19 for fewer than LOVGURSHEM_STATE words; 4 to 14 of
+ * the first line, then of the second; 15 to 18; 19 for the pieces. So far
+ * nothing is written. Then the pieces' nets are written to pieces1 and
+ * pieces2, and 19 is tested for nets, ranges, depths and raw, whose contents
+ * it leaves. At 0 the first P slots of nets, ranges and depths are the pairs'
+ * and the words are the state's; nothing else in any slice changes. raw is
+ * only measured here.
+ */
+uint32_t lovgurshem_open(double lo1, double hi1, double lo2, double hi2,
+    double gap, uint32_t splits,
+    uint32_t degree1,
+    const double *knots1, size_t knots1_length,
+    const uint32_t *mults1, size_t mults1_length,
+    const double *coords1, size_t coords1_length,
+    const double *weights1, size_t weights1_length,
+    uint32_t degree2,
+    const double *knots2, size_t knots2_length,
+    const uint32_t *mults2, size_t mults2_length,
+    const double *coords2, size_t coords2_length,
+    const double *weights2, size_t weights2_length,
+    double *pieces1, size_t pieces1_length,
+    double *pieces2, size_t pieces2_length,
+    double *nets1, size_t nets1_length,
+    double *nets2, size_t nets2_length,
+    double *ranges, size_t ranges_length,
+    uint8_t *depths, size_t depths_length,
+    const double *raw, size_t raw_length,
+    uint64_t *state, size_t state_length);
+
+/*
+ * What the clearing tests give for the top node: LOVGURSHEM_SETTLED, _SPLIT or
+ * _UNSEPARATED; 20 if the search has ended; 19 for words that are no state's,
+ * short nets or depths, or a state that is no search's. Writes nothing.
+ */
+uint32_t lovgurshem_own_verdict(const uint64_t *state, size_t state_length,
+    double gap,
+    const double *nets1, size_t nets1_length,
+    const double *nets2, size_t nets2_length,
+    const uint8_t *depths, size_t depths_length);
+
+/*
+ * A step with a verdict for the top node: 1 is Settled, 2 Split, and every
+ * other number Unseparated, which lists the node and so loses nothing.
+ *
+ * Settled removes the node. Unseparated, or Split at depth 64, gives it up: its
+ * region goes to raw. Split with no allowance left keeps it, and the search
+ * ends. Any other Split halves it. At 0 the words are the next state's, and
+ * only the slots that the step fills have changed. Refused 20, then 19; then
+ * nothing has changed.
+ */
+uint32_t lovgurshem_step(uint8_t verdict, uint64_t *state, size_t state_length,
+    double gap,
+    double *nets1, size_t nets1_length,
+    double *nets2, size_t nets2_length,
+    double *ranges, size_t ranges_length,
+    uint8_t *depths, size_t depths_length,
+    double *raw, size_t raw_length);
+
+/*
+ * Steps with the search's own verdicts until the search ends; at 0 the words
+ * are the state then. A search that has ended is answered 0 and stays as it
+ * is. Number 19 comes from a step that is refused, for words or slices that
+ * are no search's: then the words stay, and the memory has what the steps
+ * before it wrote. A search that was opened, lent enough, comes to its end.
+ */
+uint32_t lovgurshem_run(uint64_t *state, size_t state_length,
+    double gap,
+    double *nets1, size_t nets1_length,
+    double *nets2, size_t nets2_length,
+    double *ranges, size_t ranges_length,
+    uint8_t *depths, size_t depths_length,
+    double *raw, size_t raw_length);
+
+/*
+ * The report of a search that has ended. At 0 the counts are the word
+ * (LOVGURSHEM_COMPLETE, _BUDGET or _UNSEPARATED_WORD), pairs, visits, splits,
+ * settled, given, left, allowance left, and how many regions; raw has the raw
+ * list whole, and report the merged regions, then +0 up to the raw list's
+ * length. A region is ten doubles: first lo, hi, second lo, hi, lowest x, y, z,
+ * highest x, y, z. Refused 19 for words that are no state's or fewer than
+ * LOVGURSHEM_COUNTS counts, then 21, then 19; then nothing has changed. A
+ * second report gives the same.
+ */
+uint32_t lovgurshem_report(const uint64_t *state, size_t state_length,
+    double gap,
+    const double *nets1, size_t nets1_length,
+    const double *nets2, size_t nets2_length,
+    const double *ranges, size_t ranges_length,
+    const uint8_t *depths, size_t depths_length,
+    double *raw, size_t raw_length,
+    double *report, size_t report_length,
+    uint64_t *counts, size_t counts_length);
+
+#ifdef __cplusplus
+}
+#endif
+
+#endif
