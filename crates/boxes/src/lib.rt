@@ -6,7 +6,7 @@ ghost use Prim.Native.Nat.{_+_, _≤_};
 ghost use lib.ListN.{length};
 ghost use lib.Ieee.{inf};
 ghost use Rattle.boxes.specs.Points.{pointAt};
-ghost use Rattle.boxes.specs.Boxes.{cubeOf, grown, boundingBox, apartBy, boxesApart, boxSize, secondHalved};
+ghost use Rattle.boxes.specs.Boxes.{cubeOf, grown, boundingBox, apartBy, boxesApart, sidesOf, boxSize, secondHalved};
 ghost use Rattle.boxes.specs.Nets.{inMeasure, measured, measuredIn, room, measuredBox, boxOf};
 
 // A box: its lowest and its highest corner.
@@ -101,23 +101,29 @@ pub fn boxes_apart(a: Aabb, b: Aabb, gap: f64) -> bool
     ranges_apart(a.z0, a.z1, b.z0, b.z1, gap)
 }
 
+// The sides of a box.
+fn sides(b: Aabb) -> Vector3D
+    ensures { λ r. ⌜ r ≡ sidesOf b ⌝ }
+{
+    Vector3D {
+        x: b.x1 - b.x0,
+        y: b.y1 - b.y0,
+        z: b.z1 - b.z0,
+    }
+}
+
 // The length of the box's diagonal.
 pub fn box_size(b: Aabb) -> f64
     ensures { λ r. ⌜ r ≡ boxSize b ⌝ }
 {
-    let sides = Vector3D {
-        x: b.x1 - b.x0,
-        y: b.y1 - b.y0,
-        z: b.z1 - b.z0,
-    };
-    floats::norm(sides)
+    floats::norm(sides(b))
 }
 
 // Whether the second line is the one to halve: its box b is no smaller than a.
 pub fn second_halved(a: Aabb, b: Aabb) -> bool
     ensures { λ r. ⌜ r ≡ secondHalved a b ⌝ }
 {
-    box_size(b) >= box_size(a)
+    floats::is_no_longer(sides(a), sides(b))
 }
 
 // Whether each coordinate lies within 2^25 of zero; a NaN does not.

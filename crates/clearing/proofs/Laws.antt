@@ -1,19 +1,21 @@
 -- Laws of chords, of tests over points and of the verdict. Assumes nothing.
 use mathlib.Core.Path.{_≡_, refl, sym, ap, _∙_}
-use mathlib.Core.Bool.{Bool, true, false, cond}
+use mathlib.Core.Bool.{Bool, true, false, cond, true≢false}
 use mathlib.Core.List.{List, [], _∷_}
 use Prim.Native.Nat.{ℕ, zero, suc, _+_, _-_, _*_, _/_, _≤_, _<_}
 use native.Mathlib.Omega.{arith}
 use lib.ListN.{length, getD, drop}
-use lib.Ieee.{Float, binary64, mul, le}
+use lib.Ieee.{Float, binary64, add, mul, lt, le}
 use borrow.Author.Tests.{le-ltb}
 use Rattle.lists.specs.Tests.{every}
 use Rattle.floats.specs.declared.Vector3D.{Vector3D}
+use Rattle.floats.specs.Floats.{zero64}
+use Rattle.floats.proofs.Sums.{reach-not-less}
 use Rattle.floats.specs.Vectors.{subOf, dotOf, crossOf, normOf}
 use Rattle.nets.specs.Points.{pointsOf}
 use Rattle.boxes.specs.declared.Aabb.{Aabb}
 use Rattle.boxes.specs.Points.{pointAt, vectors}
-use Rattle.boxes.specs.Boxes.{everything, boundingBox}
+use Rattle.boxes.specs.Boxes.{everything, boundingBox, apartBy}
 use Rattle.boxes.specs.Nets.{outOfMeasure, measured, measuredBox, boxOf}
 use Rattle.boxes.proofs.Laws.{vectors-on, vectors-end, points-enough, measured-box}
 use Rattle.clearing.specs.declared.Reach.{Reach}
@@ -141,3 +143,20 @@ judged-is gap first second p q a b v ep eq ea eb ev =
     let fb : b ≡ boxOf second = eb ∙ ap measuredBox eq ∙ measured-box second in
     let fv : v ≡ verdictOf gap first second = (rw (fa, fb, ep, eq) at ev) ∙ measured-verdict gap first second in
     rw (fa, fb, fv) refl
+
+-- ---- ranges that meet
+
+no-or : (x y : Bool) → cond x true y ≡ false → (x ≡ false) × (y ≡ false)
+no-or true y h = absurd (true≢false h)
+no-or false y h = (refl, h)
+
+meet-apart : (axis : Vector3D) (gap a0 a1 b0 b1 : Float) → le zero64 gap ≡ true → apartBy zero64 a0 a1 b0 b1 ≡ false → false ≡ apartBy (mul binary64 gap (normOf axis)) a0 a1 b0 b1
+unfolding apartBy
+meet-apart axis gap a0 a1 b0 b1 u h =
+    let w = no-or (lt (add binary64 b1 zero64) a0) (lt (add binary64 a1 zero64) b0) h in
+    rw (reach-not-less axis gap b1 a0 u (w .0), reach-not-less axis gap a1 b0 u (w .1)) refl
+
+pub meeting-is : (axis : Vector3D) (gap : Float) (p q : List Float) (a b : Reach) → a ≡ extentOf axis p → b ≡ extentOf axis q → le zero64 gap ≡ true → reachesApart zero64 a b ≡ false → false ≡ apartAlong axis gap p q
+unfolding apartAlong
+meeting-is axis gap p q a b f g u h =
+    meet-apart axis gap (a .lo) (a .hi) (b .lo) (b .hi) u h ∙ ap (λ z. reachesApart (mul binary64 gap (normOf axis)) z b) f ∙ ap (λ z. reachesApart (mul binary64 gap (normOf axis)) (extentOf axis p) z) g

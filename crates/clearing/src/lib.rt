@@ -61,6 +61,10 @@ fn apart_along(axis: Vector3D, p: &[f64], q: &[f64], gap: f64) -> bool
 {
     let a = extent(p, axis);
     let b = extent(q, axis);
+    // ranges that meet are not apart by any gap
+    if 0.0 <= gap && !boxes::ranges_apart(a.lo, a.hi, b.lo, b.hi, 0.0) {
+        return false;
+    }
     let reach = gap * floats::norm(axis);
     boxes::ranges_apart(a.lo, a.hi, b.lo, b.hi, reach)
 }
@@ -135,7 +139,7 @@ fn near_line(points: &[f64], origin: Vector3D, axis: Vector3D, reach: f64) -> bo
 fn is_near(p: Vector3D, origin: Vector3D, axis: Vector3D, reach: f64) -> bool
     ensures { λ r. ⌜ r ≡ isNear origin axis reach p ⌝ }
 {
-    floats::norm(floats::cross(floats::sub(p, origin), axis)) <= reach
+    floats::norm_within(floats::cross(floats::sub(p, origin), axis), reach)
 }
 
 // Whether the number is above 0 and finite.

@@ -1,2 +1,4 @@
 pub mod Order
 pub mod Middle
+pub mod Bounds
+pub mod Sums

@@ -39,7 +39,7 @@ unfolding round
 round-size C f s num den h = units-size C f s _ _ h
 
 -- ---- a rounded fraction of at most 2 ^ k is at most 2 ^ k
-abbrev NotBelow : Float → Type 0
+abbrev pub NotBelow : Float → Type 0
 NotBelow nan = ⊥
 NotBelow (inf s) = s ≡ false
 NotBelow (fin s m e) = s ≡ false
@@ -57,7 +57,7 @@ units-sign-false f q k = go (ltb (q * 2 ^ k) (2 ^ (low f + suc (emax f))))
     go true = odd-sign-false (suc (prec f)) q k (low f)
     go false = refl
 
-round-sign-false : (f : Format) (num den : ℕ) → NotBelow (round f false num den)
+pub round-sign-false : (f : Format) (num den : ℕ) → NotBelow (round f false num den)
 unfolding round
 round-sign-false f num den = units-sign-false f _ _
 

@@ -1,5 +1,7 @@
 // Least, greatest, middle and vectors of f64, one rounding a step.
 ghost use mathlib.Core.Path.{_≡_};
+ghost use lib.Ieee.{le};
+ghost use Rattle.roots.specs.Root.{rootOf};
 ghost use Rattle.floats.specs.Floats.{least, greatest, within, middle};
 ghost use Rattle.floats.specs.Vectors.{subOf, dotOf, crossOf, normOf};
 
@@ -76,4 +78,50 @@ pub fn norm(a: Vector3D) -> f64
     ensures { λ r. ⌜ r ≡ normOf a ⌝ }
 {
     roots::sqrt(dot(a, a))
+}
+
+// ---- lengths compared by their squares, where these are not too near each other
+
+// A little above a bound from 0 up. Nothing rests on it: a caller tests it.
+fn above(reach: f64) -> f64 {
+    1.0009765625 * reach + 1.0e-150
+}
+
+// Whether the root of x is at most the reach.
+fn root_within(x: f64, reach: f64) -> bool
+    ensures { λ r. ⌜ r ≡ le (rootOf x) reach ⌝ }
+{
+    if 0.0 < x && 0.0 < reach && x < reach * reach {
+        return true;
+    }
+    let t = above(reach);
+    if reach < t && t * t < x {
+        return false;
+    }
+    roots::sqrt(x) <= reach
+}
+
+// Whether a is no longer than the reach.
+pub fn norm_within(a: Vector3D, reach: f64) -> bool
+    ensures { λ r. ⌜ r ≡ le (normOf a) reach ⌝ }
+{
+    root_within(dot(a, a), reach)
+}
+
+// Whether a is no longer than b.
+pub fn is_no_longer(a: Vector3D, b: Vector3D) -> bool
+    ensures { λ r. ⌜ r ≡ le (normOf a) (normOf b) ⌝ }
+{
+    let x = dot(a, a);
+    let y = dot(b, b);
+    if x <= y {
+        return true;
+    }
+    // b's length is at most t, a's more than t
+    let t = 1.00390625 * roots::rough_sqrt(y);
+    let u = above(t);
+    if 0.0 < y && 0.0 < t && y < t * t && t < u && u * u < x {
+        return false;
+    }
+    norm(a) <= norm(b)
 }

@@ -91,6 +91,17 @@ fn guess(b: u64) -> f64
     s + 0.5 * y * (v - s * s)
 }
 
+// A guess at the root of a number from 0 up to 10^300, good to one part in 500; of any other 0. Nothing rests on it: a caller tests it.
+pub fn rough_sqrt(x: f64) -> f64 {
+    if x < 1.0e300 {
+        let b = f64::to_bits(x);
+        if b < INFINITY {
+            return x * newton(f64::from_bits(0x5fe6_eb50_c7b5_37a9 - b / 2), 0.5 * x);
+        }
+    }
+    0.0
+}
+
 // The 53 digits of that guess, or of 1 where it isn't from 1 up to 2.
 fn guess_digits(b: u64) -> u64
     requires { ⌜ (0x3ff0_0000_0000_0000 ≤ b) × (b < 0x4010_0000_0000_0000) ⌝ }

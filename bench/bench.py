@@ -1,0 +1,102 @@
+#!/usr/bin/env python3
+"""Times the library against the Rust on the same sheets.
+
+  bench.py [--runs N] [--library ARCHIVE] [--program PROGRAM] RUST
+
+RUST is a release build of the Rust's sheet program that takes `--bench N`: it answers the sheet on standard input
+N times in one process. ARCHIVE is the library as `rt staticlib lovgurshem` writes it, PROGRAM the sheet program as
+`rt check clearance` does; both defaults are below target/. docs/BENCHMARKS.md says how the Rust is built.
+
+Each side answers the sheet, from its bytes to the printed text, as many times in one process as the Rust needs for
+about a third of a second, so that starting a process is below one percent. Both sides run in turn, N times each
+(9); the figure is the least user time of a side, divided by the count. Before that the answers are compared byte
+for byte.
+"""
+import os
+import subprocess
+import sys
+import tempfile
+
+import bench_sheets
+
+HERE = os.path.dirname(os.path.abspath(__file__))
+TARGET = os.path.join(HERE, '..', 'target')
+SPAN = 333000  # microseconds
+
+
+class Side:
+    def __init__(self, measure, repeated, once):
+        self.measure, self.repeated, self.once = measure, repeated, once
+
+    def run(self, command, data, stack=0):
+        """(user microseconds, peak KB, wait status, output)"""
+        done = subprocess.run([self.measure, str(stack)] + command, input=data, stdout=subprocess.PIPE, stderr=subprocess.PIPE)
+        time, peak, status = (int(w) for w in done.stderr.split()[-3:])
+        return time, peak, status, done.stdout
+
+    def times(self, data, count):
+        return self.run(self.repeated + [str(count)], data)[0]
+
+    def answer(self, data, stack=0):
+        _, peak, status, text = self.run(self.once, data, stack)
+        return peak, text if status == 0 else None
+
+
+def compiled(folder, name, more=()):
+    out = os.path.join(folder, name)
+    subprocess.run(['cc', '-O2', '-std=gnu99', '-o', out, os.path.join(HERE, name + '.c')] + list(more), check=True)
+    return out
+
+
+def least_stack(side, data):
+    """The least stack limit, in steps of 4 KB, with which the answer still comes."""
+    _, wanted = side.answer(data)
+    low, high = 0, 2048  # in steps
+    while high - low > 1:
+        middle = (low + high) // 2
+        if side.answer(data, 4 * middle)[1] == wanted:
+            high = middle
+        else:
+            low = middle
+    return 4 * high
+
+
+def timed(name, data, rust, here, runs):
+    _, text = here.answer(data)
+    if text is None or text != rust.answer(data)[1]:
+        sys.exit('%s: the answers differ' % name)
+    count = max(1, int(SPAN / max(1, rust.times(data, 20) / 20)))
+    best = [10 ** 12, 10 ** 12]
+    for _ in range(runs):
+        best = [min(b, side.times(data, count)) for b, side in zip(best, (rust, here))]
+    words = dict(w.split('=') for w in text.decode('ascii').split('\n')[0].split(' ')[1:])
+    raw = int(words['given']) + int(words['left'])
+    return '| %s | %s | %s | %d | %s | %.1f | %.1f | %.2f |' % (
+        name, words['pairs'], words['visits'], raw, words['regions'], best[0] / count, best[1] / count, best[1] / best[0])
+
+
+def main(args):
+    given = {'--runs': '9', '--library': os.path.join(TARGET, 'staticlib/liblovgurshem.a'), '--program': os.path.join(TARGET, 'bin/clearance')}
+    while len(args) > 2 and args[0] in given:
+        given[args[0]] = args[1]
+        args = args[2:]
+    if len(args) != 1:
+        sys.exit(__doc__)
+    with tempfile.TemporaryDirectory() as folder:
+        measure = compiled(folder, 'measure')
+        loop = compiled(folder, 'loop', [given['--library']])
+        rust = Side(measure, [args[0], '--bench'], [args[0]])
+        here = Side(measure, [loop], [given['--program']])
+        print('| sheet | pairs | visits | raw regions | regions | Rust, µs | here, µs | ratio |\n|---|---|---|---|---|---|---|---|')
+        for name, make, what in bench_sheets.MAIN + bench_sheets.GROWTH:
+            print(timed(name, make(*what), rust, here, int(given['--runs'])), flush=True)
+        print('\n| sheet | | Rust | here |\n|---|---|---|---|')
+        for name in ('degree25', 'overlap3'):
+            make, what = next((m, w) for n, m, w in bench_sheets.MAIN if n == name)
+            data = make(*what)
+            print('| %s | peak resident set, KB | %d | %d |' % (name, rust.answer(data)[0], here.answer(data)[0]))
+            print('| %s | least stack limit, KB | %d | %d |' % (name, least_stack(rust, data), least_stack(here, data)), flush=True)
+
+
+if __name__ == '__main__':
+    main(sys.argv[1:])

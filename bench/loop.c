@@ -1,0 +1,18 @@
+/* loop N < SHEET: the library's answer to the sheet, N times in one process; prints the last. */
+#include <stdint.h>
+#include <stdio.h>
+#include <stdlib.h>
+
+extern size_t lovgurshem_answer(const uint8_t *sheet, size_t sheet_length, uint8_t *answer, size_t answer_length);
+
+static uint8_t sheet[16388], answer[145169];
+
+int main(int argc, char **argv) {
+    long turns = argc == 2 ? atol(argv[1]) : 0;
+    size_t n = fread(sheet, 1, sizeof sheet, stdin), m = 0;
+    if (turns < 1)
+        return 2;
+    for (long i = 0; i < turns; i++)
+        m = lovgurshem_answer(sheet, n, answer, sizeof answer);
+    return fwrite(answer, 1, m, stdout) == m && m > 0 ? 0 : 1;
+}
