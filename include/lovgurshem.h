@@ -3,10 +3,10 @@
  * and in languages that call C. Link with target/staticlib/liblovgurshem.a
  * (`rt staticlib lovgurshem`; 64-bit Linux on x86-64).
  *
- * What this header says of a function is proved of it: its answer and the
- * contents of every slice afterwards follow from what was handed in by one
- * equation, refusals included (crates/lovgurshem/src/lib.rt). What a caller
- * must see to stands under "Slices", "State" and "Floats".
+ * What this header says of answers and slices is proved: a function's answer
+ * and the contents of every slice afterwards follow from what was handed in by
+ * one equation, refusals included (crates/lovgurshem/src/lib.rt). What a
+ * caller must see to stands under SLICES, FLOATS, STACK and STATE.
  *
  * SLICES. A slice is two arguments, a pointer to its first element and the
  * count of its elements. A pointer isn't NULL, also where the count is 0, and
@@ -21,8 +21,9 @@
  * ties to even, subnormals kept (a program linked for fast, inexact math turns
  * these off). Any double is taken, NaN too.
  *
- * STACK. lovgurshem_answer wants 600 KB of stack, lovgurshem_open 64 KB, the
- * others 16 KB. Beside the C library's memcpy, memmove and memset nothing is called.
+ * STACK, as measured, with a margin: lovgurshem_answer wants 600 KB,
+ * lovgurshem_open 64 KB, the others 16 KB. Of the C library memcpy and memset
+ * are called, and nothing else.
  *
  * NUMBERS. Answers of open, step, run and report are 0, or the number of the
  * refusal: 4 to 14 a line's fault, 15 to 18 the question's, 19 a slice that is
@@ -51,8 +52,8 @@
  *   depths             P + 64
  *   raw, report        10 * P * (S + 1) each
  * P is at most the product of the two counts of pieces, and known after the
- * opening. A step, a run or a report that is lent a shorter slice is number 19
- * and changes nothing; lent enough, the next call goes on.
+ * opening. A call that needs a slice and is lent a shorter one is number 19;
+ * a step or report then changes nothing, and lent enough the next call goes on.
  */
 #ifndef LOVGURSHEM_H
 #define LOVGURSHEM_H
@@ -129,9 +130,10 @@ uint32_t lovgurshem_open(double lo1, double hi1, double lo2, double hi2,
     uint64_t *state, size_t state_length);
 
 /*
- * What the clearing tests give for the top node: LOVGURSHEM_SETTLED, _SPLIT or
- * _UNSEPARATED; 20 if the search has ended; 19 for words that are no state's,
- * short nets or depths, or a state that is no search's. Writes nothing.
+ * What the clearing tests give for the top node's nets and the gap:
+ * LOVGURSHEM_SETTLED, _SPLIT or _UNSEPARATED. Refused 19 for words that are no
+ * state's, then 20, then 19 for short nets or depths or a state that is no
+ * search's. Writes nothing.
  */
 uint32_t lovgurshem_own_verdict(const uint64_t *state, size_t state_length,
     double gap,
@@ -146,8 +148,8 @@ uint32_t lovgurshem_own_verdict(const uint64_t *state, size_t state_length,
  * Settled removes the node. Unseparated, or Split at depth 64, gives it up: its
  * region goes to raw. Split with no allowance left keeps it, and the search
  * ends. Any other Split halves it. At 0 the words are the next state's, and
- * only the slots that the step fills have changed. Refused 20, then 19; then
- * nothing has changed.
+ * only the slots or the region that the step fills have changed. Refused 19
+ * for words that are no state's, then 20, then 19; then nothing has changed.
  */
 uint32_t lovgurshem_step(uint8_t verdict, uint64_t *state, size_t state_length,
     double gap,
@@ -160,9 +162,10 @@ uint32_t lovgurshem_step(uint8_t verdict, uint64_t *state, size_t state_length,
 /*
  * Steps with the search's own verdicts until the search ends; at 0 the words
  * are the state then. A search that has ended is answered 0 and stays as it
- * is. Number 19 comes from a step that is refused, for words or slices that
- * are no search's: then the words stay, and the memory has what the steps
- * before it wrote. A search that was opened, lent enough, comes to its end.
+ * is. Number 19 is for words that are no state's, or comes from a step that is
+ * refused: then the words stay, and the memory has what the steps before it
+ * wrote, nothing if it was the first. A search that was opened, lent enough,
+ * comes to its end.
  */
 uint32_t lovgurshem_run(uint64_t *state, size_t state_length,
     double gap,

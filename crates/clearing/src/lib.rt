@@ -5,6 +5,7 @@ use verdicts::Verdict;
 ghost use mathlib.Core.Path.{_≡_};
 ghost use Prim.Native.Nat.{_≤_};
 ghost use lib.ListN.{length};
+ghost use Rattle.boxes.specs.Nets.{measuredIn};
 ghost use Rattle.clearing.specs.Extents.{reachedTo, extentOf, apartAlong};
 ghost use Rattle.clearing.specs.Chords.{chordOf, isNull, normalOf, separatedOf};
 ghost use Rattle.clearing.specs.Lines.{isNear, nearLine, isLength, alongAxis, alongOneLine};
@@ -228,18 +229,27 @@ fn judge_measured(p: &[f64], a: Aabb, q: &[f64], b: Aabb, gap: f64) -> Verdict
     judge_points(p, a, q, b, gap)
 }
 
-// The verdict on two nets and a gap, and the nets' boxes. Each net is divided once.
+// The verdict on two nets and a gap, and the nets' boxes. Each net is divided once, its points into the room p or q.
+pub fn judge_in(first: &[f64], second: &[f64], gap: f64, p: &mut [f64], q: &mut [f64]) -> Judged
+    requires { ⌜ (length (now p) ≡ 78) × (length (now q) ≡ 78) ⌝ }
+    ensures { λ r. ⌜ r ≡ judgedOf gap (now (first .entry)) (now (second .entry)) ⌝ }
+    ensures { λ r. ⌜ (now (p .exit) ≡ measuredIn (now (first .entry)) (now (p .entry))) × (now (q .exit) ≡ measuredIn (now (second .entry)) (now (q .entry))) ⌝ }
+{
+    let n = boxes::measure(first, p);
+    let m = boxes::measure(second, q);
+    let a = boxes::measured_box(&p[..n]);
+    let b = boxes::measured_box(&q[..m]);
+    let verdict = judge_measured(&p[..n], a, &q[..m], b, gap);
+    Judged { verdict, a, b }
+}
+
+// The same in room of its own.
 pub fn judge_boxes(first: &[f64], second: &[f64], gap: f64) -> Judged
     ensures { λ r. ⌜ r ≡ judgedOf gap (now (first .entry)) (now (second .entry)) ⌝ }
 {
     let mut p = boxes::scratch();
     let mut q = boxes::scratch();
-    let n = boxes::measure(first, &mut p);
-    let m = boxes::measure(second, &mut q);
-    let a = boxes::measured_box(&p[..n]);
-    let b = boxes::measured_box(&q[..m]);
-    let verdict = judge_measured(&p[..n], a, &q[..m], b, gap);
-    Judged { verdict, a, b }
+    judge_in(first, second, gap, &mut p, &mut q)
 }
 
 // The verdict on two nets and a gap.

@@ -2,6 +2,7 @@
 ghost use mathlib.Core.Path.{_≡_};
 ghost use mathlib.Core.List.{[]};
 ghost use Prim.Native.Nat.{suc, _*_};
+ghost use lib.ListN.{length};
 ghost use Rattle.lists.specs.Parts.{block};
 ghost use Rattle.boxes.specs.Nets.{boxOf};
 ghost use Rattle.states.specs.States.{memory, sizes, depthAt};
@@ -121,15 +122,18 @@ pub fn step(
     Stepped::Next(advance(st, v, k, depth, a, b, nets1, nets2, ranges, depths, raw))
 }
 
-// A step with the search's own verdict: what `own_verdict` and then `step` do, with the nets divided once.
-pub fn own_step(
+// A step with the search's own verdict: what `own_verdict` and then `step` do, with the nets divided once, into the room p and q.
+fn own_step_in(
     st: State,
     nets1: &mut [f64],
     nets2: &mut [f64],
     ranges: &mut [f64],
     depths: &mut [u8],
     raw: &mut [f64],
+    p: &mut [f64],
+    q: &mut [f64],
 ) -> Stepped
+    requires { ⌜ (length (now p) ≡ 78) × (length (now q) ≡ 78) ⌝ }
     ensures { λ r. ⌜ _≡_ {A = Stepping} (stepping r (memory (now (nets1 .exit)) (now (nets2 .exit)) (now (ranges .exit)) (now (depths .exit)) (now (raw .exit)))) (ownStepDef geometry st (memory (now (nets1 .entry)) (now (nets2 .entry)) (now (ranges .entry)) (now (depths .entry)) (now (raw .entry)))) ⌝ }
 {
     if states::ended(st) {
@@ -151,15 +155,33 @@ pub fn own_step(
     }
     let k = st.waiting - 1;
     let at = k as usize;
-    let j = clearing::judge_boxes(
+    let j = clearing::judge_in(
         nets::net_of(nets1, nets2, 1, at, st.width1 as usize),
         nets::net_of(nets1, nets2, 2, at, st.width2 as usize),
         st.gap,
+        p,
+        q,
     );
     let v = j.verdict;
     let a = j.a;
     let b = j.b;
     Stepped::Next(advance(st, v, k, depth, a, b, nets1, nets2, ranges, depths, raw))
+}
+
+// The same in room of its own.
+pub fn own_step(
+    st: State,
+    nets1: &mut [f64],
+    nets2: &mut [f64],
+    ranges: &mut [f64],
+    depths: &mut [u8],
+    raw: &mut [f64],
+) -> Stepped
+    ensures { λ r. ⌜ _≡_ {A = Stepping} (stepping r (memory (now (nets1 .exit)) (now (nets2 .exit)) (now (ranges .exit)) (now (depths .exit)) (now (raw .exit)))) (ownStepDef geometry st (memory (now (nets1 .entry)) (now (nets2 .entry)) (now (ranges .entry)) (now (depths .entry)) (now (raw .entry)))) ⌝ }
+{
+    let mut p = boxes::scratch();
+    let mut q = boxes::scratch();
+    own_step_in(st, nets1, nets2, ranges, depths, raw, &mut p, &mut q)
 }
 
 // ---- the loop
@@ -175,9 +197,11 @@ pub fn run(
 ) -> Stepped
     ensures { λ r. ⌜ _≡_ {A = Stepping} (stepping r (memory (now (nets1 .exit)) (now (nets2 .exit)) (now (ranges .exit)) (now (depths .exit)) (now (raw .exit)))) (runDef geometry st (memory (now (nets1 .entry)) (now (nets2 .entry)) (now (ranges .entry)) (now (depths .entry)) (now (raw .entry)))) ⌝ }
 {
+    let mut p = boxes::scratch();
+    let mut q = boxes::scratch();
     let mut s = st;
     while !states::ended(s) {
-        let out = own_step(s, nets1, nets2, ranges, depths, raw);
+        let out = own_step_in(s, nets1, nets2, ranges, depths, raw, &mut p, &mut q);
         match out {
             Stepped::Next(next) => {
                 s = next;

@@ -15,70 +15,82 @@ use Rattle.search.proofs.run.Statement.{statement}
 use Rattle.search.proofs.run.Tie as tie
 
 abbrev Inv-loop : tie.InvT-loop
-Inv-loop nets1₀ nets2₀ ranges₀ depths₀ raw₀ s₀ nets1 nets2 ranges depths raw s = (runFor geometry (left s + 1) s (memory nets1 nets2 ranges depths raw) ≡ runFor geometry (left s₀ + 1) s₀ (memory nets1₀ nets2₀ ranges₀ depths₀ raw₀)) × (length nets1 ≡ length nets1₀) × (length nets2 ≡ length nets2₀) × (length ranges ≡ length ranges₀) × (length depths ≡ length depths₀) × (length raw ≡ length raw₀)
+Inv-loop nets1₀ nets2₀ ranges₀ depths₀ raw₀ p₀ q₀ s₀ nets1 nets2 ranges depths raw p q s = (runFor geometry (left s + 1) s (memory nets1 nets2 ranges depths raw) ≡ runFor geometry (left s₀ + 1) s₀ (memory nets1₀ nets2₀ ranges₀ depths₀ raw₀)) × (length nets1 ≡ length nets1₀) × (length nets2 ≡ length nets2₀) × (length ranges ≡ length ranges₀) × (length depths ≡ length depths₀) × (length raw ≡ length raw₀) × (length p ≡ 78) × (length q ≡ 78)
 
 abbrev μ-loop : tie.MeasureT-loop
-μ-loop nets1₀ nets2₀ ranges₀ depths₀ raw₀ s₀ nets1 nets2 ranges depths raw s = left s + bit (s .stopped)
+μ-loop nets1₀ nets2₀ ranges₀ depths₀ raw₀ p₀ q₀ s₀ nets1 nets2 ranges depths raw p q s = left s + bit (s .stopped)
+
+scratch-requires : tie.Need-scratch-requires Inv-loop μ-loop
+scratch-requires c κs = search needs
+
+scratch-requires-2 : tie.Need-scratch-requires-2 Inv-loop μ-loop
+scratch-requires-2 c κs = search needs
 
 loop-holds : tie.Need-loop-holds Inv-loop μ-loop
-loop-holds c = (refl, refl, refl, refl, refl, refl)
+loop-holds c = (refl, refl, refl, refl, refl, refl, c .before .scratch .ensures .1, c .scratch2 .ensures .1)
 
 ended-requires : tie.Need-ended-requires Inv-loop μ-loop
 ended-requires c κs = search needs
 
-own-step-requires : tie.Need-own-step-requires Inv-loop μ-loop
-own-step-requires c κs = search needs
+slice-aggregate-own-step-in : tie.Need-slice-aggregate-own-step-in Inv-loop μ-loop
+slice-aggregate-own-step-in c = search needs
+
+slice-aggregate-own-step-in-2 : tie.Need-slice-aggregate-own-step-in-2 Inv-loop μ-loop
+slice-aggregate-own-step-in-2 c = search needs
+
+own-step-in-requires : tie.Need-own-step-in-requires Inv-loop μ-loop
+own-step-in-requires c κs = (c .before .before .before .before .before .before .before .before .before .loop .inv .6, c .before .before .before .before .before .before .before .before .before .loop .inv .7)
 
 enum-known-out : tie.Need-enum-known-out Inv-loop μ-loop
 enum-known-out c = search needs
 
 loop-less : tie.Need-loop-less Inv-loop μ-loop
-loop-less c = measure-falls (c .before .before .before .before .before .before .before .before .before .before .before .before .before .before .before .before .before .before .before .before .before .loop .s) (c .before .out .given .0 .0) (sym (c .before .before .before .before .before .before .before .before .before .before .before .before .before .before .before .before .before .before .before .before .ended .ensures) ∙ not-true _ (c .before .before .before .before .before .before .before .before .before .before .before .before .before .before .before .before .before .before .before .if1 .taken)) (own-step-falls geometry (c .before .before .before .before .before .before .before .before .before .before .before .before .before .before .before .before .before .before .before .before .before .loop .s) (memory (c .before .before .before .before .before .before .before .before .before .before .before .before .before .before .before .before .before .before .before .before .before .loop .nets1) (c .before .before .before .before .before .before .before .before .before .before .before .before .before .before .before .before .before .before .before .before .before .loop .nets2) (c .before .before .before .before .before .before .before .before .before .before .before .before .before .before .before .before .before .before .before .before .before .loop .ranges) (c .before .before .before .before .before .before .before .before .before .before .before .before .before .before .before .before .before .before .before .before .before .loop .depths) (c .before .before .before .before .before .before .before .before .before .before .before .before .before .before .before .before .before .before .before .before .before .loop .raw)) _ (ap (λ (o : Stepping). o .answer) (sym (c .before .before .before .before .before .before .before .before .before .before .before .before .before .own-step .ensures)) ∙ c .before .out .given .1))
+loop-less c = measure-falls (c .before .before .before .before .before .before .before .before .before .before .before .before .before .before .before .before .before .before .before .before .before .before .before .before .before .loop .s) (c .before .out .given .0 .0) (sym (c .before .before .before .before .before .before .before .before .before .before .before .before .before .before .before .before .before .before .before .before .before .before .before .before .ended .ensures) ∙ not-true _ (c .before .before .before .before .before .before .before .before .before .before .before .before .before .before .before .before .before .before .before .before .before .before .before .if1 .taken)) (own-step-falls geometry (c .before .before .before .before .before .before .before .before .before .before .before .before .before .before .before .before .before .before .before .before .before .before .before .before .before .loop .s) (memory (c .before .before .before .before .before .before .before .before .before .before .before .before .before .before .before .before .before .before .before .before .before .before .before .before .before .loop .nets1) (c .before .before .before .before .before .before .before .before .before .before .before .before .before .before .before .before .before .before .before .before .before .before .before .before .before .loop .nets2) (c .before .before .before .before .before .before .before .before .before .before .before .before .before .before .before .before .before .before .before .before .before .before .before .before .before .loop .ranges) (c .before .before .before .before .before .before .before .before .before .before .before .before .before .before .before .before .before .before .before .before .before .before .before .before .before .loop .depths) (c .before .before .before .before .before .before .before .before .before .before .before .before .before .before .before .before .before .before .before .before .before .before .before .before .before .loop .raw)) _ (ap (λ (o : Stepping). o .answer) (sym (c .before .before .before .before .before .before .before .before .before .before .before .before .before .before .before .own-step-in .ensures)) ∙ c .before .out .given .1))
 
 loop-again : tie.Need-loop-again Inv-loop μ-loop
-loop-again c = (run-turn geometry (c .before .before .before .before .before .before .before .before .before .before .before .before .before .before .before .before .before .before .before .before .before .loop .s) (memory (c .before .before .before .before .before .before .before .before .before .before .before .before .before .before .before .before .before .before .before .before .before .loop .nets1) (c .before .before .before .before .before .before .before .before .before .before .before .before .before .before .before .before .before .before .before .before .before .loop .nets2) (c .before .before .before .before .before .before .before .before .before .before .before .before .before .before .before .before .before .before .before .before .before .loop .ranges) (c .before .before .before .before .before .before .before .before .before .before .before .before .before .before .before .before .before .before .before .before .before .loop .depths) (c .before .before .before .before .before .before .before .before .before .before .before .before .before .before .before .before .before .before .before .before .before .loop .raw)) _ (memory (c .before .before .before .before .before .before .before .before .before .before .before .before .before .own-step .last .1 .0) (c .before .before .before .before .before .before .before .before .before .before .before .before .before .own-step .last .1 .1 .0) (c .before .before .before .before .before .before .before .before .before .before .before .before .before .own-step .last .1 .1 .1 .0) (c .before .before .before .before .before .before .before .before .before .before .before .before .before .own-step .last .1 .1 .1 .1 .0) (c .before .before .before .before .before .before .before .before .before .before .before .before .before .own-step .last .1 .1 .1 .1 .1 .0)) (sym (c .before .before .before .before .before .before .before .before .before .before .before .before .before .before .before .before .before .before .before .before .ended .ensures) ∙ not-true _ (c .before .before .before .before .before .before .before .before .before .before .before .before .before .before .before .before .before .before .before .if1 .taken)) (some-left (c .before .before .before .before .before .before .before .before .before .before .before .before .before .before .before .before .before .before .before .before .before .loop .s) (sym (c .before .before .before .before .before .before .before .before .before .before .before .before .before .before .before .before .before .before .before .before .ended .ensures) ∙ not-true _ (c .before .before .before .before .before .before .before .before .before .before .before .before .before .before .before .before .before .before .before .if1 .taken))) (ap (λ (r : Stepped). stepping r (memory (c .before .before .before .before .before .before .before .before .before .before .before .before .before .own-step .last .1 .0) (c .before .before .before .before .before .before .before .before .before .before .before .before .before .own-step .last .1 .1 .0) (c .before .before .before .before .before .before .before .before .before .before .before .before .before .own-step .last .1 .1 .1 .0) (c .before .before .before .before .before .before .before .before .before .before .before .before .before .own-step .last .1 .1 .1 .1 .0) (c .before .before .before .before .before .before .before .before .before .before .before .before .before .own-step .last .1 .1 .1 .1 .1 .0))) (sym (c .before .out .given .1)) ∙ c .before .before .before .before .before .before .before .before .before .before .before .before .before .own-step .ensures) ∙ c .before .before .before .before .before .before .before .before .before .before .before .before .before .before .before .before .before .before .before .before .before .loop .inv .0, c .before .before .before .before .before .before .before .before .before .before .before .before .before .own-step .kept .1 .0 ∙ c .before .before .before .before .before .before .before .before .before .before .before .before .before .before .before .before .before .before .before .before .before .loop .inv .1, c .before .before .before .before .before .before .before .before .before .before .before .before .before .own-step .kept .1 .1 .0 ∙ c .before .before .before .before .before .before .before .before .before .before .before .before .before .before .before .before .before .before .before .before .before .loop .inv .2, c .before .before .before .before .before .before .before .before .before .before .before .before .before .own-step .kept .1 .1 .1 .0 ∙ c .before .before .before .before .before .before .before .before .before .before .before .before .before .before .before .before .before .before .before .before .before .loop .inv .3, c .before .before .before .before .before .before .before .before .before .before .before .before .before .own-step .kept .1 .1 .1 .1 .0 ∙ c .before .before .before .before .before .before .before .before .before .before .before .before .before .before .before .before .before .before .before .before .before .loop .inv .4, c .before .before .before .before .before .before .before .before .before .before .before .before .before .own-step .kept .1 .1 .1 .1 .1 .0 ∙ c .before .before .before .before .before .before .before .before .before .before .before .before .before .before .before .before .before .before .before .before .before .loop .inv .5)
+loop-again c = (run-turn geometry (c .before .before .before .before .before .before .before .before .before .before .before .before .before .before .before .before .before .before .before .before .before .before .before .before .before .loop .s) (memory (c .before .before .before .before .before .before .before .before .before .before .before .before .before .before .before .before .before .before .before .before .before .before .before .before .before .loop .nets1) (c .before .before .before .before .before .before .before .before .before .before .before .before .before .before .before .before .before .before .before .before .before .before .before .before .before .loop .nets2) (c .before .before .before .before .before .before .before .before .before .before .before .before .before .before .before .before .before .before .before .before .before .before .before .before .before .loop .ranges) (c .before .before .before .before .before .before .before .before .before .before .before .before .before .before .before .before .before .before .before .before .before .before .before .before .before .loop .depths) (c .before .before .before .before .before .before .before .before .before .before .before .before .before .before .before .before .before .before .before .before .before .before .before .before .before .loop .raw)) _ (memory (c .before .before .before .before .before .before .before .before .before .before .before .before .before .before .before .own-step-in .last .1 .0) (c .before .before .before .before .before .before .before .before .before .before .before .before .before .before .before .own-step-in .last .1 .1 .0) (c .before .before .before .before .before .before .before .before .before .before .before .before .before .before .before .own-step-in .last .1 .1 .1 .0) (c .before .before .before .before .before .before .before .before .before .before .before .before .before .before .before .own-step-in .last .1 .1 .1 .1 .0) (c .before .before .before .before .before .before .before .before .before .before .before .before .before .before .before .own-step-in .last .1 .1 .1 .1 .1 .0)) (sym (c .before .before .before .before .before .before .before .before .before .before .before .before .before .before .before .before .before .before .before .before .before .before .before .before .ended .ensures) ∙ not-true _ (c .before .before .before .before .before .before .before .before .before .before .before .before .before .before .before .before .before .before .before .before .before .before .before .if1 .taken)) (some-left (c .before .before .before .before .before .before .before .before .before .before .before .before .before .before .before .before .before .before .before .before .before .before .before .before .before .loop .s) (sym (c .before .before .before .before .before .before .before .before .before .before .before .before .before .before .before .before .before .before .before .before .before .before .before .before .ended .ensures) ∙ not-true _ (c .before .before .before .before .before .before .before .before .before .before .before .before .before .before .before .before .before .before .before .before .before .before .before .if1 .taken))) (ap (λ (r : Stepped). stepping r (memory (c .before .before .before .before .before .before .before .before .before .before .before .before .before .before .before .own-step-in .last .1 .0) (c .before .before .before .before .before .before .before .before .before .before .before .before .before .before .before .own-step-in .last .1 .1 .0) (c .before .before .before .before .before .before .before .before .before .before .before .before .before .before .before .own-step-in .last .1 .1 .1 .0) (c .before .before .before .before .before .before .before .before .before .before .before .before .before .before .before .own-step-in .last .1 .1 .1 .1 .0) (c .before .before .before .before .before .before .before .before .before .before .before .before .before .before .before .own-step-in .last .1 .1 .1 .1 .1 .0))) (sym (c .before .out .given .1)) ∙ c .before .before .before .before .before .before .before .before .before .before .before .before .before .before .before .own-step-in .ensures) ∙ c .before .before .before .before .before .before .before .before .before .before .before .before .before .before .before .before .before .before .before .before .before .before .before .before .before .loop .inv .0, c .before .before .before .before .before .before .before .before .before .before .before .before .before .before .before .own-step-in .kept .1 .0 ∙ c .before .before .before .before .before .before .before .before .before .before .before .before .before .before .before .before .before .before .before .before .before .before .before .before .before .loop .inv .1, c .before .before .before .before .before .before .before .before .before .before .before .before .before .before .before .own-step-in .kept .1 .1 .0 ∙ c .before .before .before .before .before .before .before .before .before .before .before .before .before .before .before .before .before .before .before .before .before .before .before .before .before .loop .inv .2, c .before .before .before .before .before .before .before .before .before .before .before .before .before .before .before .own-step-in .kept .1 .1 .1 .0 ∙ c .before .before .before .before .before .before .before .before .before .before .before .before .before .before .before .before .before .before .before .before .before .before .before .before .before .loop .inv .3, c .before .before .before .before .before .before .before .before .before .before .before .before .before .before .before .own-step-in .kept .1 .1 .1 .1 .0 ∙ c .before .before .before .before .before .before .before .before .before .before .before .before .before .before .before .before .before .before .before .before .before .before .before .before .before .loop .inv .4, c .before .before .before .before .before .before .before .before .before .before .before .before .before .before .before .own-step-in .kept .1 .1 .1 .1 .1 .0 ∙ c .before .before .before .before .before .before .before .before .before .before .before .before .before .before .before .before .before .before .before .before .before .before .before .before .before .loop .inv .5, c .before .before .before .before .before .before .before .before .before .before .before .before .before .before .before .own-step-in .kept .1 .1 .1 .1 .1 .1 .0 ∙ c .before .before .before .before .before .before .before .before .before .before .before .before .before .before .before .before .before .before .before .before .before .before .before .before .before .loop .inv .6, c .before .before .before .before .before .before .before .before .before .before .before .before .before .before .before .own-step-in .kept .1 .1 .1 .1 .1 .1 .1 .0 ∙ c .before .before .before .before .before .before .before .before .before .before .before .before .before .before .before .before .before .before .before .before .before .before .before .before .before .loop .inv .7)
 
 enum-told : tie.Need-enum-told Inv-loop μ-loop
 enum-told c = search needs
 
 same-length : tie.Need-same-length Inv-loop μ-loop
-same-length c = c .before .before .before .before .before .before .before .before .before .before .before .before .own-step .kept .1 .0 ∙ c .before .before .before .before .before .before .before .before .before .before .before .before .before .before .before .before .before .before .before .before .loop .inv .1
+same-length c = c .before .before .before .before .before .before .before .before .before .before .before .before .before .before .own-step-in .kept .1 .0 ∙ c .before .before .before .before .before .before .before .before .before .before .before .before .before .before .before .before .before .before .before .before .before .before .before .before .loop .inv .1
 
 same-length-2 : tie.Need-same-length-2 Inv-loop μ-loop
-same-length-2 c = c .before .before .before .before .before .before .before .before .before .before .before .before .own-step .kept .1 .1 .0 ∙ c .before .before .before .before .before .before .before .before .before .before .before .before .before .before .before .before .before .before .before .before .loop .inv .2
+same-length-2 c = c .before .before .before .before .before .before .before .before .before .before .before .before .before .before .own-step-in .kept .1 .1 .0 ∙ c .before .before .before .before .before .before .before .before .before .before .before .before .before .before .before .before .before .before .before .before .before .before .before .before .loop .inv .2
 
 same-length-3 : tie.Need-same-length-3 Inv-loop μ-loop
-same-length-3 c = c .before .before .before .before .before .before .before .before .before .before .before .before .own-step .kept .1 .1 .1 .0 ∙ c .before .before .before .before .before .before .before .before .before .before .before .before .before .before .before .before .before .before .before .before .loop .inv .3
+same-length-3 c = c .before .before .before .before .before .before .before .before .before .before .before .before .before .before .own-step-in .kept .1 .1 .1 .0 ∙ c .before .before .before .before .before .before .before .before .before .before .before .before .before .before .before .before .before .before .before .before .before .before .before .before .loop .inv .3
 
 same-length-4 : tie.Need-same-length-4 Inv-loop μ-loop
-same-length-4 c = c .before .before .before .before .before .before .before .before .before .before .before .before .own-step .kept .1 .1 .1 .1 .0 ∙ c .before .before .before .before .before .before .before .before .before .before .before .before .before .before .before .before .before .before .before .before .loop .inv .4
+same-length-4 c = c .before .before .before .before .before .before .before .before .before .before .before .before .before .before .own-step-in .kept .1 .1 .1 .1 .0 ∙ c .before .before .before .before .before .before .before .before .before .before .before .before .before .before .before .before .before .before .before .before .before .before .before .before .loop .inv .4
 
 same-length-5 : tie.Need-same-length-5 Inv-loop μ-loop
-same-length-5 c = c .before .before .before .before .before .before .before .before .before .before .before .before .own-step .kept .1 .1 .1 .1 .1 .0 ∙ c .before .before .before .before .before .before .before .before .before .before .before .before .before .before .before .before .before .before .before .before .loop .inv .5
+same-length-5 c = c .before .before .before .before .before .before .before .before .before .before .before .before .before .before .own-step-in .kept .1 .1 .1 .1 .1 .0 ∙ c .before .before .before .before .before .before .before .before .before .before .before .before .before .before .before .before .before .before .before .before .before .before .before .before .loop .inv .5
 
 returns : tie.Need-returns Inv-loop μ-loop
-returns c = run-refused geometry (c .before .before .before .before .before .before .before .before .before .before .before .before .before .before .before .before .before .before .before .before .loop .s) (memory (c .before .before .before .before .before .before .before .before .before .before .before .before .before .before .before .before .before .before .before .before .loop .nets1) (c .before .before .before .before .before .before .before .before .before .before .before .before .before .before .before .before .before .before .before .before .loop .nets2) (c .before .before .before .before .before .before .before .before .before .before .before .before .before .before .before .before .before .before .before .before .loop .ranges) (c .before .before .before .before .before .before .before .before .before .before .before .before .before .before .before .before .before .before .before .before .loop .depths) (c .before .before .before .before .before .before .before .before .before .before .before .before .before .before .before .before .before .before .before .before .loop .raw)) _ (memory (c .before .before .before .before .before .before .before .before .before .before .before .before .own-step .last .1 .0) (c .before .before .before .before .before .before .before .before .before .before .before .before .own-step .last .1 .1 .0) (c .before .before .before .before .before .before .before .before .before .before .before .before .own-step .last .1 .1 .1 .0) (c .before .before .before .before .before .before .before .before .before .before .before .before .own-step .last .1 .1 .1 .1 .0) (c .before .before .before .before .before .before .before .before .before .before .before .before .own-step .last .1 .1 .1 .1 .1 .0)) (sym (c .before .before .before .before .before .before .before .before .before .before .before .before .before .before .before .before .before .before .before .ended .ensures) ∙ not-true _ (c .before .before .before .before .before .before .before .before .before .before .before .before .before .before .before .before .before .before .if1 .taken)) (inl refl) (ap (λ (r : Stepped). stepping r (memory (c .before .before .before .before .before .before .before .before .before .before .before .before .own-step .last .1 .0) (c .before .before .before .before .before .before .before .before .before .before .before .before .own-step .last .1 .1 .0) (c .before .before .before .before .before .before .before .before .before .before .before .before .own-step .last .1 .1 .1 .0) (c .before .before .before .before .before .before .before .before .before .before .before .before .own-step .last .1 .1 .1 .1 .0) (c .before .before .before .before .before .before .before .before .before .before .before .before .own-step .last .1 .1 .1 .1 .1 .0))) (sym (c .enum-told .given .1)) ∙ c .before .before .before .before .before .before .before .before .before .before .before .before .own-step .ensures) ∙ c .before .before .before .before .before .before .before .before .before .before .before .before .before .before .before .before .before .before .before .before .loop .inv .0
+returns c = run-refused geometry (c .before .before .before .before .before .before .before .before .before .before .before .before .before .before .before .before .before .before .before .before .before .before .before .before .loop .s) (memory (c .before .before .before .before .before .before .before .before .before .before .before .before .before .before .before .before .before .before .before .before .before .before .before .before .loop .nets1) (c .before .before .before .before .before .before .before .before .before .before .before .before .before .before .before .before .before .before .before .before .before .before .before .before .loop .nets2) (c .before .before .before .before .before .before .before .before .before .before .before .before .before .before .before .before .before .before .before .before .before .before .before .before .loop .ranges) (c .before .before .before .before .before .before .before .before .before .before .before .before .before .before .before .before .before .before .before .before .before .before .before .before .loop .depths) (c .before .before .before .before .before .before .before .before .before .before .before .before .before .before .before .before .before .before .before .before .before .before .before .before .loop .raw)) _ (memory (c .before .before .before .before .before .before .before .before .before .before .before .before .before .before .own-step-in .last .1 .0) (c .before .before .before .before .before .before .before .before .before .before .before .before .before .before .own-step-in .last .1 .1 .0) (c .before .before .before .before .before .before .before .before .before .before .before .before .before .before .own-step-in .last .1 .1 .1 .0) (c .before .before .before .before .before .before .before .before .before .before .before .before .before .before .own-step-in .last .1 .1 .1 .1 .0) (c .before .before .before .before .before .before .before .before .before .before .before .before .before .before .own-step-in .last .1 .1 .1 .1 .1 .0)) (sym (c .before .before .before .before .before .before .before .before .before .before .before .before .before .before .before .before .before .before .before .before .before .before .before .ended .ensures) ∙ not-true _ (c .before .before .before .before .before .before .before .before .before .before .before .before .before .before .before .before .before .before .before .before .before .before .if1 .taken)) (inl refl) (ap (λ (r : Stepped). stepping r (memory (c .before .before .before .before .before .before .before .before .before .before .before .before .before .before .own-step-in .last .1 .0) (c .before .before .before .before .before .before .before .before .before .before .before .before .before .before .own-step-in .last .1 .1 .0) (c .before .before .before .before .before .before .before .before .before .before .before .before .before .before .own-step-in .last .1 .1 .1 .0) (c .before .before .before .before .before .before .before .before .before .before .before .before .before .before .own-step-in .last .1 .1 .1 .1 .0) (c .before .before .before .before .before .before .before .before .before .before .before .before .before .before .own-step-in .last .1 .1 .1 .1 .1 .0))) (sym (c .enum-told .given .1)) ∙ c .before .before .before .before .before .before .before .before .before .before .before .before .before .before .own-step-in .ensures) ∙ c .before .before .before .before .before .before .before .before .before .before .before .before .before .before .before .before .before .before .before .before .before .before .before .before .loop .inv .0
 
 enum-told-2 : tie.Need-enum-told-2 Inv-loop μ-loop
 enum-told-2 c = search needs
 
 same-length-6 : tie.Need-same-length-6 Inv-loop μ-loop
-same-length-6 c = c .before .before .before .before .before .before .before .before .before .before .before .before .own-step .kept .1 .0 ∙ c .before .before .before .before .before .before .before .before .before .before .before .before .before .before .before .before .before .before .before .before .loop .inv .1
+same-length-6 c = c .before .before .before .before .before .before .before .before .before .before .before .before .before .before .own-step-in .kept .1 .0 ∙ c .before .before .before .before .before .before .before .before .before .before .before .before .before .before .before .before .before .before .before .before .before .before .before .before .loop .inv .1
 
 same-length-7 : tie.Need-same-length-7 Inv-loop μ-loop
-same-length-7 c = c .before .before .before .before .before .before .before .before .before .before .before .before .own-step .kept .1 .1 .0 ∙ c .before .before .before .before .before .before .before .before .before .before .before .before .before .before .before .before .before .before .before .before .loop .inv .2
+same-length-7 c = c .before .before .before .before .before .before .before .before .before .before .before .before .before .before .own-step-in .kept .1 .1 .0 ∙ c .before .before .before .before .before .before .before .before .before .before .before .before .before .before .before .before .before .before .before .before .before .before .before .before .loop .inv .2
 
 same-length-8 : tie.Need-same-length-8 Inv-loop μ-loop
-same-length-8 c = c .before .before .before .before .before .before .before .before .before .before .before .before .own-step .kept .1 .1 .1 .0 ∙ c .before .before .before .before .before .before .before .before .before .before .before .before .before .before .before .before .before .before .before .before .loop .inv .3
+same-length-8 c = c .before .before .before .before .before .before .before .before .before .before .before .before .before .before .own-step-in .kept .1 .1 .1 .0 ∙ c .before .before .before .before .before .before .before .before .before .before .before .before .before .before .before .before .before .before .before .before .before .before .before .before .loop .inv .3
 
 same-length-9 : tie.Need-same-length-9 Inv-loop μ-loop
-same-length-9 c = c .before .before .before .before .before .before .before .before .before .before .before .before .own-step .kept .1 .1 .1 .1 .0 ∙ c .before .before .before .before .before .before .before .before .before .before .before .before .before .before .before .before .before .before .before .before .loop .inv .4
+same-length-9 c = c .before .before .before .before .before .before .before .before .before .before .before .before .before .before .own-step-in .kept .1 .1 .1 .1 .0 ∙ c .before .before .before .before .before .before .before .before .before .before .before .before .before .before .before .before .before .before .before .before .before .before .before .before .loop .inv .4
 
 same-length-10 : tie.Need-same-length-10 Inv-loop μ-loop
-same-length-10 c = c .before .before .before .before .before .before .before .before .before .before .before .before .own-step .kept .1 .1 .1 .1 .1 .0 ∙ c .before .before .before .before .before .before .before .before .before .before .before .before .before .before .before .before .before .before .before .before .loop .inv .5
+same-length-10 c = c .before .before .before .before .before .before .before .before .before .before .before .before .before .before .own-step-in .kept .1 .1 .1 .1 .1 .0 ∙ c .before .before .before .before .before .before .before .before .before .before .before .before .before .before .before .before .before .before .before .before .before .before .before .before .loop .inv .5
 
 returns-2 : tie.Need-returns-2 Inv-loop μ-loop
-returns-2 c = run-refused geometry (c .before .before .before .before .before .before .before .before .before .before .before .before .before .before .before .before .before .before .before .before .loop .s) (memory (c .before .before .before .before .before .before .before .before .before .before .before .before .before .before .before .before .before .before .before .before .loop .nets1) (c .before .before .before .before .before .before .before .before .before .before .before .before .before .before .before .before .before .before .before .before .loop .nets2) (c .before .before .before .before .before .before .before .before .before .before .before .before .before .before .before .before .before .before .before .before .loop .ranges) (c .before .before .before .before .before .before .before .before .before .before .before .before .before .before .before .before .before .before .before .before .loop .depths) (c .before .before .before .before .before .before .before .before .before .before .before .before .before .before .before .before .before .before .before .before .loop .raw)) _ (memory (c .before .before .before .before .before .before .before .before .before .before .before .before .own-step .last .1 .0) (c .before .before .before .before .before .before .before .before .before .before .before .before .own-step .last .1 .1 .0) (c .before .before .before .before .before .before .before .before .before .before .before .before .own-step .last .1 .1 .1 .0) (c .before .before .before .before .before .before .before .before .before .before .before .before .own-step .last .1 .1 .1 .1 .0) (c .before .before .before .before .before .before .before .before .before .before .before .before .own-step .last .1 .1 .1 .1 .1 .0)) (sym (c .before .before .before .before .before .before .before .before .before .before .before .before .before .before .before .before .before .before .before .ended .ensures) ∙ not-true _ (c .before .before .before .before .before .before .before .before .before .before .before .before .before .before .before .before .before .before .if1 .taken)) (inr refl) (ap (λ (r : Stepped). stepping r (memory (c .before .before .before .before .before .before .before .before .before .before .before .before .own-step .last .1 .0) (c .before .before .before .before .before .before .before .before .before .before .before .before .own-step .last .1 .1 .0) (c .before .before .before .before .before .before .before .before .before .before .before .before .own-step .last .1 .1 .1 .0) (c .before .before .before .before .before .before .before .before .before .before .before .before .own-step .last .1 .1 .1 .1 .0) (c .before .before .before .before .before .before .before .before .before .before .before .before .own-step .last .1 .1 .1 .1 .1 .0))) (sym (c .enum-told2 .given .1)) ∙ c .before .before .before .before .before .before .before .before .before .before .before .before .own-step .ensures) ∙ c .before .before .before .before .before .before .before .before .before .before .before .before .before .before .before .before .before .before .before .before .loop .inv .0
+returns-2 c = run-refused geometry (c .before .before .before .before .before .before .before .before .before .before .before .before .before .before .before .before .before .before .before .before .before .before .before .before .loop .s) (memory (c .before .before .before .before .before .before .before .before .before .before .before .before .before .before .before .before .before .before .before .before .before .before .before .before .loop .nets1) (c .before .before .before .before .before .before .before .before .before .before .before .before .before .before .before .before .before .before .before .before .before .before .before .before .loop .nets2) (c .before .before .before .before .before .before .before .before .before .before .before .before .before .before .before .before .before .before .before .before .before .before .before .before .loop .ranges) (c .before .before .before .before .before .before .before .before .before .before .before .before .before .before .before .before .before .before .before .before .before .before .before .before .loop .depths) (c .before .before .before .before .before .before .before .before .before .before .before .before .before .before .before .before .before .before .before .before .before .before .before .before .loop .raw)) _ (memory (c .before .before .before .before .before .before .before .before .before .before .before .before .before .before .own-step-in .last .1 .0) (c .before .before .before .before .before .before .before .before .before .before .before .before .before .before .own-step-in .last .1 .1 .0) (c .before .before .before .before .before .before .before .before .before .before .before .before .before .before .own-step-in .last .1 .1 .1 .0) (c .before .before .before .before .before .before .before .before .before .before .before .before .before .before .own-step-in .last .1 .1 .1 .1 .0) (c .before .before .before .before .before .before .before .before .before .before .before .before .before .before .own-step-in .last .1 .1 .1 .1 .1 .0)) (sym (c .before .before .before .before .before .before .before .before .before .before .before .before .before .before .before .before .before .before .before .before .before .before .before .ended .ensures) ∙ not-true _ (c .before .before .before .before .before .before .before .before .before .before .before .before .before .before .before .before .before .before .before .before .before .before .if1 .taken)) (inr refl) (ap (λ (r : Stepped). stepping r (memory (c .before .before .before .before .before .before .before .before .before .before .before .before .before .before .own-step-in .last .1 .0) (c .before .before .before .before .before .before .before .before .before .before .before .before .before .before .own-step-in .last .1 .1 .0) (c .before .before .before .before .before .before .before .before .before .before .before .before .before .before .own-step-in .last .1 .1 .1 .0) (c .before .before .before .before .before .before .before .before .before .before .before .before .before .before .own-step-in .last .1 .1 .1 .1 .0) (c .before .before .before .before .before .before .before .before .before .before .before .before .before .before .own-step-in .last .1 .1 .1 .1 .1 .0))) (sym (c .enum-told2 .given .1)) ∙ c .before .before .before .before .before .before .before .before .before .before .before .before .before .before .own-step-in .ensures) ∙ c .before .before .before .before .before .before .before .before .before .before .before .before .before .before .before .before .before .before .before .before .before .before .before .before .loop .inv .0
 
 same-length-11 : tie.Need-same-length-11 Inv-loop μ-loop
 same-length-11 c = c .before .before .loop .inv .1
@@ -104,9 +116,13 @@ run-spec =
     (tie.spec
     Inv-loop
     μ-loop
+    scratch-requires
+    scratch-requires-2
     loop-holds
     ended-requires
-    own-step-requires
+    slice-aggregate-own-step-in
+    slice-aggregate-own-step-in-2
+    own-step-in-requires
     enum-known-out
     loop-less
     loop-again
