@@ -158,7 +158,7 @@ le-trans-float (fin s m e) (fin t n d) (fin w z r) h k =
     (trans-fin s t w (m * up e) (n * up d) (z * up r) (down e) (down d) (down r) (down-pos e) (down-pos d) (down-pos r) (of-fin s m e t n d h) (of-fin t n d w z r k))
 
 -- ---- least and greatest of two numbers bound both, and are numbers
-eq-self : (x : Float) → Number x → T (eq x x)
+pub eq-self : (x : Float) → Number x → T (eq x x)
 unfolding eq
 eq-self nan p = absurd p
 eq-self (inf true) p = tt

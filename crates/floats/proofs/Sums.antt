@@ -232,7 +232,7 @@ add-mono f s m e t n d u k c h =
 
 -- ---- at most, then less
 
-not-le-lt : (x y : Float) → Number x → Number y → (T (le y x) → ⊥) → T (lt x y)
+pub not-le-lt : (x y : Float) → Number x → Number y → (T (le y x) → ⊥) → T (lt x y)
 not-le-lt nan y p q h = absurd p
 not-le-lt (inf s) nan p q h = absurd q
 not-le-lt (inf true) (inf true) p q h = absurd (h (unfold le in tt))

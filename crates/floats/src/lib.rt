@@ -1,28 +1,45 @@
 // Least, greatest, middle and vectors of f64, one rounding a step.
 ghost use mathlib.Core.Path.{_≡_};
-ghost use lib.Ieee.{le};
+ghost use mathlib.Core.Bool.{cond};
+ghost use lib.Ieee.{lt, le};
 ghost use Rattle.roots.specs.Root.{rootOf};
 ghost use Rattle.floats.specs.Floats.{least, greatest, within, middle};
 ghost use Rattle.floats.specs.Vectors.{subOf, dotOf, crossOf, normOf};
+
+// b where it is less than a, else a: one instruction of the machine.
+fn lower(a: f64, b: f64) -> f64
+    ensures { λ r. ⌜ r ≡ cond (lt b a) b a ⌝ }
+{
+    if b < a { b } else { a }
+}
+
+// b where it is more than a, else a.
+fn higher(a: f64, b: f64) -> f64
+    ensures { λ r. ⌜ r ≡ cond (lt a b) b a ⌝ }
+{
+    if a < b { b } else { a }
+}
 
 // The least of two; a NaN is skipped, as by Rust's `f64::min`.
 pub fn min(a: f64, b: f64) -> f64
     ensures { λ r. ⌜ r ≡ least a b ⌝ }
 {
-    if a <= b {
-        return a;
+    let low = lower(a, b);
+    if a == a {
+        return low;
     }
-    if b == b { b } else { a }
+    b
 }
 
 // The greatest of two; a NaN is skipped, as by Rust's `f64::max`.
 pub fn max(a: f64, b: f64) -> f64
     ensures { λ r. ⌜ r ≡ greatest a b ⌝ }
 {
-    if b <= a {
-        return a;
+    let high = higher(a, b);
+    if a == a {
+        return high;
     }
-    if b == b { b } else { a }
+    b
 }
 
 // Whether x lies from lo to hi, ends included; a NaN does not.

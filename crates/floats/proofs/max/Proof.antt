@@ -1,19 +1,18 @@
--- `max` is greatest: one case a return. Assumes nothing.
-use Rattle.floats.specs.Floats.{greatest}
+-- `max` is greatest: by one comparison where the first is a number, else the second. Assumes nothing.
+use mathlib.Core.Path.{_∙_}
+use borrow.Author.Needs.{needs}
+use Rattle.floats.proofs.Picks.{higher-is, second-greatest}
 use Rattle.floats.proofs.max.Statement.{statement}
 use Rattle.floats.proofs.max.Tie as tie
 
+higher-requires : tie.Need-higher-requires
+higher-requires c κs = search needs
+
 returns : tie.Need-returns
-unfolding greatest
-returns c = simp (c .if1 .taken)
+returns c = c .before .higher .ensures ∙ higher-is (c .before .before .args .a) (c .before .before .args .b) (c .if1 .taken)
 
 returns-2 : tie.Need-returns-2
-unfolding greatest
-returns-2 c = simp (c .before .if1 .left, c .if2 .taken)
-
-returns-3 : tie.Need-returns-3
-unfolding greatest
-returns-3 c = simp (c .before .if1 .left, c .if2 .left)
+returns-2 c = second-greatest (c .before .before .args .a) (c .before .before .args .b) (c .if1 .left)
 
 pub max-spec : {M : Type 1} → statement M
-max-spec = tie.close (tie.spec returns returns-2 returns-3)
+max-spec = tie.close (tie.spec higher-requires returns returns-2)
