@@ -16,7 +16,9 @@ def archive(test):
         return ARCHIVE
     if not shutil.which("rt"):
         sys.exit(print(f"{test}: no rt here, not run"))
-    built = subprocess.run(["rt", "staticlib", "lovgurshem"], cwd=ROOT, stdout=subprocess.PIPE, stderr=subprocess.STDOUT, text=True)
-    if built.returncode != 0:
-        sys.exit(f"{built.stdout}{test}: the library was not built")
+    # the check proves crates side by side, which the second command, alone, does not
+    for command in [["rt", "check", "lovgurshem", "clearance"], ["rt", "staticlib", "lovgurshem"]]:
+        built = subprocess.run(command, cwd=ROOT, stdout=subprocess.PIPE, stderr=subprocess.STDOUT, text=True)
+        if built.returncode != 0:
+            sys.exit(f"{built.stdout}{test}: the library was not built")
     return ARCHIVE
