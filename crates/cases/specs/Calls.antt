@@ -60,12 +60,12 @@ askings =
     -- before the end a report is refused
     asking (report whole (replicate 20 zero64)) (21 ∷ [])
     -- the tests say Split; a step and an own verdict that are lent too little are refused
-    ∷ asking (own whole) (1 ∷ [])
+    ∷ asking (own whole) (2 ∷ [])
     ∷ asking (step Settled shortRaw) (19 ∷ [])
     ∷ asking (own shortDepths) (19 ∷ [])
     -- the second line is halved; the lower half is given up; a split comes due at allowance 0, and its node is left
     ∷ asking (step Split whole) (1 ∷ 1 ∷ 0 ∷ 0 ∷ 2 ∷ 0 ∷ [])
-    ∷ asking (own shortRaw) (1 ∷ [])
+    ∷ asking (own shortRaw) (2 ∷ [])
     ∷ asking (step Unseparated whole) (2 ∷ 1 ∷ 0 ∷ 1 ∷ 1 ∷ 0 ∷ [])
     ∷ asking (step Split whole) (3 ∷ 1 ∷ 0 ∷ 1 ∷ 1 ∷ 0 ∷ [])
     -- after the end

@@ -14,7 +14,8 @@ use Rattle.states.proofs.Tests.{and-first, and-second}
 use Rattle.verdicts.specs.declared.Verdict.{Verdict}
 use Rattle.verdicts.specs.declared.Verdict.the-variants.{Settled, Split, Unseparated}
 use Rattle.states.specs.declared.State.{State}
-use Rattle.words.specs.Words.{flagOf, wordsOf, Within, stateOf, isState, verdictNumber, verdictOf}
+use Rattle.verdicts.specs.Verdicts.{verdictNumber}
+use Rattle.words.specs.Words.{flagOf, wordsOf, Within, stateOf, isState, verdictOf}
 
 -- ---- the tests of the words, as facts on numbers
 pub within : (ws : List ℕ) → isState ws ≡ true → Within ws

@@ -67,11 +67,6 @@ pub record Within (ws : List ℕ) : Type 0 where
 
 -- ---- verdicts as numbers
 
-abbrev pub verdictNumber : Verdict → ℕ
-verdictNumber Settled = 1
-verdictNumber Split = 2
-verdictNumber Unseparated = 3
-
 -- a verdict handed to a step: 1 is Settled, 2 Split, and every other number Unseparated, which loses nothing (`verdict_of`)
 abbrev pub verdictOf : ℕ → Verdict
 verdictOf n = cond (eqb n 1) Settled (cond (eqb n 2) Split Unseparated)

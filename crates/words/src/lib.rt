@@ -4,7 +4,8 @@ ghost use mathlib.Core.Bool.{true};
 ghost use Prim.Native.Nat.{_≤_};
 ghost use lib.ListN.{length};
 ghost use Rattle.lists.specs.Parts.{patch};
-ghost use Rattle.words.specs.Words.{flagOf, wordsOf, stateOf, isState, Within, verdictNumber, verdictOf};
+ghost use Rattle.verdicts.specs.Verdicts.{verdictNumber};
+ghost use Rattle.words.specs.Words.{flagOf, wordsOf, stateOf, isState, Within, verdictOf};
 use states::State;
 use verdicts::Verdict;
 
