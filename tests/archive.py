@@ -17,7 +17,7 @@ def archive(test):
     if not shutil.which("rt"):
         sys.exit(print(f"{test}: no rt here, not run"))
     # the check proves crates side by side, which the second command, alone, does not
-    for command in [["rt", "check", "lovgurshem", "clearance"], ["rt", "staticlib", "lovgurshem"]]:
+    for command in [["rt", "check", "clearance", "words"], ["rt", "staticlib", "lovgurshem"]]:
         built = subprocess.run(command, cwd=ROOT, stdout=subprocess.PIPE, stderr=subprocess.STDOUT, text=True)
         if built.returncode != 0:
             sys.exit(f"{built.stdout}{test}: the library was not built")
