@@ -65,7 +65,10 @@ def timed(name, data, rust, here, runs):
     _, text = here.answer(data)
     if text is None or text != rust.answer(data)[1]:
         sys.exit('%s: the answers differ' % name)
-    count = max(1, int(SPAN / max(1, rust.times(data, 20) / 20)))
+    tried = 20
+    while rust.times(data, tried) < SPAN / 8:
+        tried *= 2
+    count = max(1, int(SPAN / (rust.times(data, tried) / tried)))
     best = [10 ** 12, 10 ** 12]
     for _ in range(runs):
         best = [min(b, side.times(data, count)) for b, side in zip(best, (rust, here))]
