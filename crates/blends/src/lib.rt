@@ -1,10 +1,10 @@
 // The Bezier points of one knot span, by the triangular recurrence on the poles' coefficients.
 ghost use mathlib.Core.Path.{_≡_};
-ghost use mathlib.Core.List.{_∷_, _++_};
+ghost use mathlib.Core.List.{_++_};
 ghost use Prim.Native.Nat.{_+_, _-_, _*_, _≤_, _<_};
 ghost use lib.ListN.{length, take, drop};
 ghost use Rattle.blends.specs.Blends.{mixOf, knotOf, alphaOf, endOf, added, nothing, pointOf, pointsFrom};
-ghost use Rattle.blends.specs.Table.{mixes, levelOf, triangle, units, unitAt, coefficients, weighed};
+ghost use Rattle.blends.specs.Table.{mixes, levelOf, triangle, units, unitAt, weighed};
 
 // One blend.
 fn mix(alpha: f64, a: f64, b: f64) -> f64

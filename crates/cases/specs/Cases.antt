@@ -5,23 +5,19 @@ use Prim.Native.Nat.{ℕ, suc, _*_}
 use lib.ListN.{replicate, take}
 use lib.Ieee.{Float, binary64, ofBits}
 use Rattle.floats.specs.Floats.{zero64, one64, half64}
-use Rattle.regions.specs.declared.Word.{Word}
 use Rattle.regions.specs.Reports.{wordNumber}
 use Rattle.facts.specs.Faults.{Line, Question}
-use Rattle.states.specs.declared.State.{State}
-use Rattle.states.specs.declared.Counts.{Counts}
 use Rattle.states.specs.States.{Memory, memory}
 use Rattle.search.specs.declared.Stepped.{Stepped}
 use Rattle.search.specs.declared.Stepped.the-variants.{Next, Ended, NoRoom}
 use Rattle.nodes.specs.Nets.{geometry}
-use Rattle.search.specs.Steps.{Stepping}
 use Rattle.search.specs.Runs.{runDef}
 use Rattle.report.specs.declared.Reported.{Reported}
 use Rattle.report.specs.declared.Reported.the-variants.{Told, Running, NoRoom as ReportNoRoom}
-use Rattle.report.specs.Reports.{Reporting, reportDef}
+use Rattle.report.specs.Reports.{reportDef}
 use Rattle.opening.specs.declared.Opened.{Opened}
 use Rattle.opening.specs.declared.Opened.the-variants.{Open, BadLine, BadQuestion, NoRoom as OpenNoRoom}
-use Rattle.opening.specs.Opens.{Opening, openDef, openedNumber}
+use Rattle.opening.specs.Opens.{openDef, openedNumber}
 
 -- 2, 3, 10, 12 and 0.5
 abbrev pub two64 : Float

@@ -1,5 +1,4 @@
 -- The verdict on two nets (document 01, Boxes and tests; the visit in `search_meetings`, Newton's branch removed). Definitions only.
-use Prim.Native.Nat.{ℕ}
 use mathlib.Core.Bool.{cond}
 use mathlib.Core.List.{List}
 use lib.Dec.{ltb}

@@ -12,7 +12,7 @@ use lib.Ieee.{Float}
 use Rattle.lists.specs.Members.{Any, All}
 use Rattle.verdicts.specs.declared.Verdict.{Verdict}
 use Rattle.verdicts.specs.declared.Verdict.the-variants.{Settled, Split, Unseparated}
-use Rattle.machine.specs.Machine.{Node, Settling, Search, limit, depth, InNode, ended, divide, advance, isSettle, hear}
+use Rattle.machine.specs.Machine.{Node, Settling, Search, limit, depth, InNode, ended, divide, advance, isSettle}
 use Rattle.machine.specs.Merge.{merged}
 use Rattle.machine.specs.Covered.{SetApart, Covered, byBoxes, bySettled, byGiven, byWaiting}
 use Rattle.regions.specs.declared.Word.{Word}
@@ -21,14 +21,14 @@ use Rattle.regions.specs.Regions.{merging}
 use Rattle.regions.specs.Reports.{wordFor, reportSlice}
 use Rattle.states.specs.declared.State.{State}
 use Rattle.states.specs.declared.Counts.{Counts}
-use Rattle.states.specs.States.{Memory, Sizes, sizes, needed, enough, enoughOwn, isSearch, over}
+use Rattle.states.specs.States.{Memory, Sizes, sizes, needed, enough, isSearch, over}
 use Rattle.search.specs.declared.Stepped.{Stepped}
 use Rattle.search.specs.declared.Stepped.the-variants.{Next}
 use Rattle.search.specs.declared.Own.the-variants.{Is}
 use Rattle.nodes.specs.Geometry.{Geometry}
 use Rattle.nodes.specs.Nets.{geometry}
 use Rattle.search.specs.Steps.{Stepping, stepping, stepDef, ownDef}
-use Rattle.search.specs.Runs.{carriedOut, ownStepDef, turned, runFor, runDef}
+use Rattle.search.specs.Runs.{carriedOut, turned, runFor, runDef}
 use Rattle.report.specs.declared.Reported.{Reported}
 use Rattle.report.specs.declared.Reported.the-variants.{Told, Running, NoRoom as ReportNoRoom}
 use Rattle.report.specs.Reports.{Reporting, reporting, writeReport, reportDef}
@@ -37,8 +37,10 @@ use Rattle.opening.specs.Opens.{searchFor}
 use Rattle.coverage.specs.Calls.{Answer, stepped, reported, Outcome, stepOutcome, reportOutcome}
 use Rattle.coverage.specs.Rules.{Ruled}
 use Rattle.coverage.specs.Claim.{Fine, GoodReport}
+use Rattle.facts.proofs.Reflect.{as-true}
+use Rattle.states.proofs.Tests.{enough-own}
 use Rattle.coverage.specs.Complete.{Ends, Passes, Clear, Reports, LoopEnds, CompleteIsClear, LoopReports}
-use Rattle.coverage.proofs.Refine.{Numbers, Held, RoomOwn, over-ended, StepSim, unchanged, moved, search, ruleWith, step-sim}
+use Rattle.coverage.proofs.Refine.{over-ended, StepSim, unchanged, moved, search, ruleWith, step-sim}
 use Rattle.coverage.proofs.Chain.{Inv, own-fields, hear-inv, reportWith, report-fields}
 use Rattle.coverage.proofs.Opening.{open-inv}
 use Rattle.coverage.proofs.Final.{Ok, Cleared, ok-advance, ok-hear, ok-start, word-exact, good-report}
@@ -51,16 +53,6 @@ AllOwn q l = All (λ (e : Settling (shape q)). T (e .own)) l
 -- what each step lowers, unless it ends the search
 abbrev rest : (q : Asked) → Search (shape q) → ℕ
 rest q m = 2 * m .unspent + length (m .stack)
-
-judges : (need have : Sizes) → enough need have ≡ true → enoughOwn need have ≡ true
-judges need have e = go (leb (need .nets1) (have .nets1)) (leb (need .nets2) (have .nets2)) (leb (need .ranges) (have .ranges)) (leb (need .depths) (have .depths)) (leb (need .raw) (have .raw)) e
-  where
-    go : (a b c d f : Bool) → (a && (b && (c && (d && f)))) ≡ true → (a && (b && d)) ≡ true
-    go true true true true f e = refl
-    go true true true false f e = e
-    go true true false d f e = absurd (false≢true e)
-    go true false c d f e = e
-    go false b c d f e = e
 
 next-of : (a b : Stepped) → _≡_ {A = Answer} (stepped a) (stepped b) → a ≡ b
 next-of a b e = cc
@@ -124,7 +116,7 @@ module _ (q : Asked) (low : (w : ℕ) (l : List Float) → length l ≡ 4 * w �
       let S = I .held .nodes in
       let e = ap (enough (needed (stateOf q (start q)))) (I .lengths) ∙ room in
       let asked : ownDef G x u ≡ Is v = own-fields q low upp full (n ∷ r) se gi vi sp un false to u (I .numbers) (λ R. (S .0 .net1, S .0 .net2, S .0 .depth))
-      ∙ ap (λ (b : Bool). cond b (Is v) Rattle.search.specs.declared.Own.the-variants.NoRoom) (judges (needed (stateOf q (start q))) (sizes u) e) in
+      ∙ ap (λ (b : Bool). cond b (Is v) Rattle.search.specs.declared.Own.the-variants.NoRoom) (enough-own (needed (stateOf q (start q))) (sizes u) e) in
       let z = after-sim m1 u (stepOutcome x o) (ruleWith q true v m1) I1 (subst (λ (b : Bool). StepSim q (stepOutcome x o) (ruleWith q b v m1) m1 u) e (step-sim q low upp m1 u v (I1 .numbers) (λ R. I1 .held))) in
       let a : o .answer ≡ Next (stateOf q m2) = next-of (o .answer) (Next (stateOf q m2)) (z .0) in
       let p : runFor G (suc k) x u ≡ runFor G k (stateOf q m2) (o .memory)
@@ -228,15 +220,11 @@ Claims q x u =
 same-next : (x y : State) → Next x ≡ Next y → x ≡ y
 same-next x y e = cc
 
-is-true : (b : Bool) → T b → b ≡ true
-is-true true t = refl
-is-true false t = absurd t
-
 module _ (q : Asked) (u : Memory) (F : Fine q) (room : T (enough (needed (stateOf q (start q))) (sizes u))) where
   pub loop-claims : Claims q (stateOf q (start q)) (openMemory q u)
   loop-claims =
-      let L = from-start q (F .lower-length) (F .upper-length) (sizes u) (is-true (enough (needed (stateOf q (start q))) (sizes u)) room) (openMemory q u) F (open-inv q u F room) in (
-        record { last = stateOf q (L .last); answer = L .answer; finished = over-ended q (L .last) ∙ is-true (ended (shape q) (L .last)) (L .finished) },
+      let L = from-start q (F .lower-length) (F .upper-length) (sizes u) (as-true (enough (needed (stateOf q (start q))) (sizes u)) room) (openMemory q u) F (open-inv q u F room) in (
+        record { last = stateOf q (L .last); answer = L .answer; finished = over-ended q (L .last) ∙ as-true (ended (shape q) (L .last)) (L .finished) },
         λ y e slice c k r.
             let s = same-next y (stateOf q (L .last)) (sym e ∙ L .answer) in
             let w = told-word (q .geometry) y (runDef (q .geometry) (stateOf q (start q)) (openMemory q u) .memory) slice Complete c k r in
@@ -246,7 +234,7 @@ module _ (q : Asked) (u : Memory) (F : Fine q) (room : T (enough (needed (stateO
             let s = same-next y (stateOf q (L .last)) (sym e ∙ L .answer) in
             let w = runDef (q .geometry) (stateOf q (start q)) (openMemory q u) .memory in
             subst (λ (x : State). Reports q (reportDef (q .geometry) x w slice)) (sym s)
-            (reports-all q (sizes u) (is-true (enough (needed (stateOf q (start q))) (sizes u)) room) (L .last) w (L .inv) (L .ok) (L .own) (L .finished) slice (le-leb (pairsOf q * suc (q .quota) * 10) (length slice) h)),
+            (reports-all q (sizes u) (as-true (enough (needed (stateOf q (start q))) (sizes u)) room) (L .last) w (L .inv) (L .ok) (L .own) (L .finished) slice (le-leb (pairsOf q * suc (q .quota) * 10) (length slice) h)),
       )
 
 pub loop-ends : LoopEnds

@@ -1,7 +1,7 @@
 -- Demand 3 holds: admission and the question give what the theorem for any geometry asks. Assumes nothing.
 use mathlib.Core.Path.{_≡_, refl, ap, sym, _∙_, subst}
 use mathlib.Core.List.{List}
-use mathlib.Core.Bool.{Bool, true, false, not, _&&_, cond, false≢true}
+use mathlib.Core.Bool.{Bool, true, false, not, cond, false≢true}
 use Prim.Native.Nat.{ℕ, _+_, _*_, _/_, _^_, _≤_}
 use native.Mathlib.Nat.{le-trans, mul-le-mul-right, mul-comm, mul-div-cancel}
 use native.Mathlib.Omega.{arith}
@@ -16,15 +16,14 @@ use Rattle.floats.specs.Sizes.{Within}
 use Rattle.floats.specs.Stations.{Cut}
 use Rattle.lines.specs.declared.Admission.the-variants.{Admitted}
 use Rattle.questions.specs.declared.Asked.{Asked as AskAnswer}
-use Rattle.questions.specs.declared.Asked.the-variants.{Fine as FineQuestion, RangeOutOfBounds, GapOutOfRange, TooManySplits, BreaksTooClose}
+use Rattle.questions.specs.declared.Asked.the-variants.{RangeOutOfBounds}
 use Rattle.questions.specs.Questions.{rangeFits, askWithin}
-use Rattle.facts.specs.Faults.{Line, Question, admission, asked, bounds}
+use Rattle.facts.specs.Faults.{Question, admission, asked, bounds}
 use Rattle.facts.specs.Cover.{cutsOf}
 use Rattle.facts.proofs.Cover.{pieces-cover, pieces-fine}
 use Rattle.states.specs.declared.State.{State}
 use Rattle.states.specs.States.{Memory, sizes, needed, enough}
 use Rattle.nodes.specs.Nets.{geometry}
-use Rattle.opening.specs.declared.Opened.{Opened}
 use Rattle.opening.specs.declared.Opened.the-variants.{Open, BadLine, BadQuestion, NoRoom}
 use Rattle.opening.specs.Asked.{start, stateOf, openMemory}
 use Rattle.opening.specs.Opens.{searchFor, isAdmitted, isFine, piecesFit, Opening, opening, Pushing, pushing, openPieces, openDef}

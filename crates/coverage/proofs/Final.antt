@@ -4,13 +4,12 @@ use mathlib.Core.Logic.{inl, inr, _↔_}
 use mathlib.Core.List.{List, [], _∷_, _++_, map, reverse, append-assoc}
 use mathlib.Core.Bool.{Bool, true, false, not, _&&_, cond, and-comm}
 use Prim.Native.Nat.{ℕ, zero, suc, _+_, _-_, _*_, _≤_, _^_}
-use native.Mathlib.Nat.{le-trans}
 use native.Mathlib.Omega.{arith}
 use lib.Dec.{T, leb, lit<}
 use lib.ListN.{length, take, drop, replicate}
 use lib.Seq.{take-at}
 use lib.Ieee.{Float, le}
-use Rattle.floats.specs.Stations.{InRange, Piece, Cut, piecesFrom, endFrom}
+use Rattle.floats.specs.Stations.{Piece}
 use Rattle.lists.specs.Members.{Any, All}
 use Rattle.lists.proofs.Members.{any-left, any-right, any-reverse, all-append, all-reverse}
 use Rattle.verdicts.specs.declared.Verdict.{Verdict}
@@ -40,7 +39,7 @@ use Rattle.report.specs.declared.Reported.the-variants.{Told, Running, NoRoom a
 use Rattle.coverage.specs.Calls.{Call, step, own, report, Answer, stepped, judged, reported, runAll}
 use Rattle.opening.specs.Asked.{Asked, shape, pieces1, pieces2, In1, In2, pairsOf, start, stateOf, tally, netOf1, netOf2, openMemory, rawList}
 use Rattle.coverage.specs.Rules.{Ruled, suffices, sufficesOwn, stepRule, testTop, ownRule, heard, reportRule, callRule, ruleAll}
-use Rattle.coverage.specs.Claim.{bound, FineLine, Accounted, GoodAnswer, After, Fine, GoodReport}
+use Rattle.coverage.specs.Claim.{bound, Accounted, GoodAnswer, After, Fine, GoodReport}
 use Rattle.coverage.proofs.Refine.{flats-length, search}
 use Rattle.coverage.proofs.Chain.{chain}
 use Rattle.coverage.proofs.Opening.{all-pieces, open-inv}

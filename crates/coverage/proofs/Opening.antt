@@ -2,7 +2,7 @@
 use mathlib.Core.Path.{_≡_, refl, ap, sym, _∙_, subst}
 use mathlib.Core.List.{List, [], _∷_, _++_, map, reverseAux, append-assoc}
 use mathlib.Core.Bool.{Bool, true, false, cond}
-use Prim.Native.Nat.{ℕ, zero, suc, _+_, _*_, _≤_, _^_}
+use Prim.Native.Nat.{ℕ, suc, _+_, _*_, _≤_, _^_}
 use native.Mathlib.Nat.{suc-mul}
 use native.Mathlib.Omega.{arith}
 use lib.Dec.{T}
@@ -12,13 +12,13 @@ use lib.Ieee.{Float}
 use Rattle.floats.specs.Stations.{Piece, Cut, piecesFrom}
 use Rattle.lists.specs.Members.{All}
 use Rattle.lists.proofs.Members.{all-append}
-use Rattle.lists.specs.Parts.{block}
+use Rattle.lists.specs.Parts.{block, joined}
 use Rattle.lists.proofs.Parts.{patch-length}
 use Rattle.machine.specs.Machine.{Shape, Node, limit, depth, atPieces, row, pushed}
 use Rattle.machine.proofs.Cover.{count-fresh}
 use Rattle.floats.specs.Sizes.{Within}
 use Rattle.states.specs.States.{Memory, sizes, needed, enough}
-use Rattle.opening.specs.Asked.{Asked, shape, pieces1, pieces2, pushedPairs, pairsOf, start, stateOf, netOf1, netOf2, rangesOf, depthOf, concat, openMemory}
+use Rattle.opening.specs.Asked.{Asked, shape, pieces1, pieces2, pushedPairs, pairsOf, start, stateOf, netOf1, netOf2, rangesOf, depthOf, openMemory}
 use Rattle.coverage.specs.Claim.{bound, FineLine, Stored, AllStored, Fine}
 use Rattle.coverage.proofs.Refine.{room-of, fits-in}
 use Rattle.coverage.proofs.Chain.{Inv}
@@ -49,10 +49,10 @@ module _ {A B : Type 0} (w : ℕ) (f : B → List A) where
   Blk j [] L = Unit {0}
   Blk j (n ∷ r) L = (block w j L ≡ f n) × Blk (suc j) r L
 
-  blk : (j : ℕ) (pre : List A) (ns : List B) (rest : List A) → length pre ≡ j * w → All (λ (n : B). length (f n) ≡ w) ns → Blk j ns (pre ++ (concat (map f ns) ++ rest))
+  blk : (j : ℕ) (pre : List A) (ns : List B) (rest : List A) → length pre ≡ j * w → All (λ (n : B). length (f n) ≡ w) ns → Blk j ns (pre ++ (joined (map f ns) ++ rest))
   blk j pre [] rest e h = tt
   blk j pre (n ∷ r) rest e h =
-      let C = concat (map f r) in
+      let C = joined (map f r) in
       let L = pre ++ ((f n ++ C) ++ rest) in
       let p : (f n ++ C) ++ rest ≡ f n ++ (C ++ rest) = append-assoc (f n) C rest in
       let move : (pre ++ f n) ++ (C ++ rest) ≡ L = append-assoc pre (f n) (C ++ rest) ∙ ap (λ (z : List A). pre ++ z) (sym p) in (
@@ -60,9 +60,9 @@ module _ {A B : Type 0} (w : ℕ) (f : B → List A) where
         subst (Blk (suc j) r) move (blk (suc j) (pre ++ f n) r rest (length-append pre (f n) ∙ (λ i. e i + h .0 i) ∙ sym (suc-mul j w)) (h .1)),
       )
 
-  concat-length : (ns : List B) → All (λ (n : B). length (f n) ≡ w) ns → length (concat (map f ns)) ≡ length ns * w
-  concat-length [] h = omega (arith, native.Mathlib.Nat.zero-mul w)
-  concat-length (n ∷ r) h = length-append (f n) (concat (map f r)) ∙ (λ i. h .0 i + concat-length r (h .1) i) ∙ native.Mathlib.Nat.add-comm w (length r * w) ∙ sym (suc-mul (length r) w)
+  joined-length : (ns : List B) → All (λ (n : B). length (f n) ≡ w) ns → length (joined (map f ns)) ≡ length ns * w
+  joined-length [] h = omega (arith, native.Mathlib.Nat.zero-mul w)
+  joined-length (n ∷ r) h = length-append (f n) (joined (map f r)) ∙ (λ i. h .0 i + joined-length r (h .1) i) ∙ native.Mathlib.Nat.add-comm w (length r * w) ∙ sym (suc-mul (length r) w)
 
 module _ (q : Asked) (u : Memory) where
   abbrev Up : ℕ → List (Node (shape q)) → Type 0
@@ -97,17 +97,17 @@ open-inv q u O room =
       numbers = record { counts = count-fresh (shape q) (pieces1 q) (pieces2 q) (q .quota * pairsOf q); allowance = omega arith; visited = omega arith };
       held = record {
         nodes = rev-stored q (openMemory q u) N [] (up-of q (openMemory q u) 0 N
-            (blk (4 * q .width1) (netOf1 q) 0 [] N (drop (0 + length (concat (map (netOf1 q) N))) (u .nets1)) (sym (native.Mathlib.Nat.zero-mul (4 * q .width1))) la)
-            (blk (4 * q .width2) (netOf2 q) 0 [] N (drop (0 + length (concat (map (netOf2 q) N))) (u .nets2)) (sym (native.Mathlib.Nat.zero-mul (4 * q .width2))) lb)
-            (blk 4 (rangesOf q) 0 [] N (drop (0 + length (concat (map (rangesOf q) N))) (u .ranges)) refl lr)
-            (blk 1 (depthOf q) 0 [] N (drop (0 + length (concat (map (depthOf q) N))) (u .depths)) refl ld)) tt;
+            (blk (4 * q .width1) (netOf1 q) 0 [] N (drop (0 + length (joined (map (netOf1 q) N))) (u .nets1)) (sym (native.Mathlib.Nat.zero-mul (4 * q .width1))) la)
+            (blk (4 * q .width2) (netOf2 q) 0 [] N (drop (0 + length (joined (map (netOf2 q) N))) (u .nets2)) (sym (native.Mathlib.Nat.zero-mul (4 * q .width2))) lb)
+            (blk 4 (rangesOf q) 0 [] N (drop (0 + length (joined (map (rangesOf q) N))) (u .ranges)) refl lr)
+            (blk 1 (depthOf q) 0 [] N (drop (0 + length (joined (map (depthOf q) N))) (u .depths)) refl ld)) tt;
         raw = refl;
       };
       lengths = λ i. record {
-        nets1 = patch-length (u .nets1) 0 (concat (map (netOf1 q) N)) (fits (4 * q .width1) (concat-length (4 * q .width1) (netOf1 q) N la) (R .nets1)) i;
-        nets2 = patch-length (u .nets2) 0 (concat (map (netOf2 q) N)) (fits (4 * q .width2) (concat-length (4 * q .width2) (netOf2 q) N lb) (R .nets2)) i;
-        ranges = patch-length (u .ranges) 0 (concat (map (rangesOf q) N)) (fits 4 (concat-length 4 (rangesOf q) N lr) (R .ranges)) i;
-        depths = patch-length (u .depths) 0 (concat (map (depthOf q) N)) (fits 1 (concat-length 1 (depthOf q) N ld) (R .depths)) i;
+        nets1 = patch-length (u .nets1) 0 (joined (map (netOf1 q) N)) (fits (4 * q .width1) (joined-length (4 * q .width1) (netOf1 q) N la) (R .nets1)) i;
+        nets2 = patch-length (u .nets2) 0 (joined (map (netOf2 q) N)) (fits (4 * q .width2) (joined-length (4 * q .width2) (netOf2 q) N lb) (R .nets2)) i;
+        ranges = patch-length (u .ranges) 0 (joined (map (rangesOf q) N)) (fits 4 (joined-length 4 (rangesOf q) N lr) (R .ranges)) i;
+        depths = patch-length (u .depths) 0 (joined (map (depthOf q) N)) (fits 1 (joined-length 1 (depthOf q) N ld) (R .depths)) i;
         raw = length (u .raw);
       };
     }

@@ -2,7 +2,7 @@
 use mathlib.Core.Path.{_≡_, refl, ap, sym, _∙_, subst}
 use mathlib.Core.List.{List, [], _∷_, _++_, map, append-assoc}
 use mathlib.Core.Bool.{Bool, true, false, not, _&&_, _||_, cond}
-use Prim.Native.Nat.{ℕ, zero, suc, _+_, _-_, _*_, _≤_, _<_}
+use Prim.Native.Nat.{ℕ, zero, suc, _+_, _*_, _≤_, _<_}
 use native.Mathlib.Nat.{le-refl, le-trans, mul-le-mul-right, suc-mul, add-mul}
 use native.Mathlib.Omega.{arith}
 use lib.Dec.{T, leb, eqb, leb→le, le→leb, nleb→lt}
@@ -20,15 +20,17 @@ use Rattle.machine.proofs.Cover.{child-depth, Deep, Counts as Balance, count-ad
 use Rattle.regions.specs.declared.Region.{Region}
 use Rattle.regions.specs.Regions.{flat, flats}
 use Rattle.states.specs.declared.State.{State}
+use Rattle.facts.proofs.Reflect.{as-true}
+use Rattle.states.proofs.Tests.{RoomAll, room-all}
 use Rattle.search.specs.declared.Stepped.the-variants.{Next, Ended, NoRoom}
 use Rattle.nodes.specs.Geometry.{regionOf}
 use Rattle.states.specs.States.{Memory, memory, Sizes, sizes, needed, enough, enoughOwn, topDepth, isZero, topFits, isSearch, over, countsOf, depthAt}
 use Rattle.search.specs.Steps.{part1, part2}
 use Rattle.nodes.specs.Moves.{givenState}
 use Rattle.search.specs.Steps.{Stepping, stepping, halves, splitMemory, giveUpAt, divideAt, actOn, stepDef}
-use Rattle.coverage.specs.Calls.{step, own, stepped, Outcome, after, lend, giveBack, stepOutcome}
+use Rattle.coverage.specs.Calls.{stepped, Outcome, lend, giveBack, stepOutcome}
 use Rattle.opening.specs.Asked.{Asked, shape, pairsOf, start, stateOf, tally, depthOf}
-use Rattle.coverage.specs.Rules.{Ruled, lent, suffices}
+use Rattle.coverage.specs.Rules.{Ruled, lent}
 use Rattle.coverage.specs.Claim.{Stored, AllStored}
 
 -- ---- two memories whose first K nodes are the same
@@ -51,31 +53,11 @@ agree-stored q K u w (n ∷ r) a h z = (
 )
 
 -- ---- what a sufficient size gives
-pub record Room (q : Asked) (s : Sizes) : Type 0 where
-  pub nets1 : (pairsOf q + limit) * (4 * q .width1) ≤ s .nets1
-  pub nets2 : (pairsOf q + limit) * (4 * q .width2) ≤ s .nets2
-  pub ranges : (pairsOf q + limit) * 4 ≤ s .ranges
-  pub depths : (pairsOf q + limit) * 1 ≤ s .depths
-  pub raw : pairsOf q * suc (q .quota) * 10 ≤ s .raw
+abbrev pub Room : Asked → Sizes → Type 0
+Room q s = RoomAll (stateOf q (start q)) s
 
 pub room-of : (q : Asked) (s : Sizes) → T (enough (needed (stateOf q (start q))) s) → Room q s
-room-of q s t =
-    let P = pairsOf q in
-    let b1 = leb ((P + limit) * (4 * q .width1)) (s .nets1) in
-    let b2 = leb ((P + limit) * (4 * q .width2)) (s .nets2) in
-    let b3 = leb ((P + limit) * 4) (s .ranges) in
-    let b4 = leb ((P + limit) * 1) (s .depths) in
-    let b5 = leb (P * suc (q .quota) * 10) (s .raw) in
-    let t2 : T (b2 && (b3 && (b4 && b5))) = and-r b1 (b2 && (b3 && (b4 && b5))) t in
-    let t3 : T (b3 && (b4 && b5)) = and-r b2 (b3 && (b4 && b5)) t2 in
-    let t4 : T (b4 && b5) = and-r b3 (b4 && b5) t3 in
-    record {
-      nets1 = leb→le ((P + limit) * (4 * q .width1)) (s .nets1) (and-l b1 (b2 && (b3 && (b4 && b5))) t);
-      nets2 = leb→le ((P + limit) * (4 * q .width2)) (s .nets2) (and-l b2 (b3 && (b4 && b5)) t2);
-      ranges = leb→le ((P + limit) * 4) (s .ranges) (and-l b3 (b4 && b5) t3);
-      depths = leb→le ((P + limit) * 1) (s .depths) (and-l b4 b5 t4);
-      raw = leb→le (P * suc (q .quota) * 10) (s .raw) (and-r b4 b5 t4);
-    }
+room-of q s t = room-all (stateOf q (start q)) s (as-true _ t)
 
 -- k slots fit
 pub fits-in : (k K n len : ℕ) → k ≤ K → K * n ≤ len → k * n ≤ len

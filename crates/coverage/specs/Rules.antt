@@ -2,7 +2,7 @@
 -- pairs and the verdicts of the steps that the table doesn't refuse". `full` are the lengths of the whole memory. Definitions only.
 use mathlib.Core.List.{List, [], _∷_}
 use mathlib.Core.Bool.{Bool, _&&_, cond}
-use Prim.Native.Nat.{ℕ, suc, _+_, _*_, min}
+use Prim.Native.Nat.{suc, _+_, _*_, min}
 use lib.Dec.{leb}
 use lib.ListN.{length}
 use lib.Ieee.{Float}

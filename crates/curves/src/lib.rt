@@ -1,6 +1,7 @@
 // The Bezier pieces of an admitted line over an asked range.
 ghost use mathlib.Core.Path.{_≡_};
 ghost use Prim.Native.Nat.{_+_, _-_, _*_, _/_, _≤_};
+ghost use lib.Dec.{leb};
 ghost use lib.ListN.{length};
 ghost use Rattle.lists.specs.Parts.{patch};
 ghost use Rattle.lines.specs.declared.Admission.the-variants.{Admitted};
@@ -25,6 +26,14 @@ pub fn piece_count(knots: &[f64], lo: f64, hi: f64) -> usize
     let mut b = knots::break_room();
     let n = knots::breaks(knots, lo, hi, &mut b);
     n - 1
+}
+
+// Whether a slice of this length holds the pieces: 4 × width a piece.
+pub fn pieces_fit(degree: u32, knots: &[f64], lo: f64, hi: f64, room: usize) -> bool
+    requires { ⌜ (length (now knots) ≤ 128) × (degree ≤ 25) ⌝ }
+    ensures { λ r. ⌜ r ≡ leb (pieceCount lo hi (now (knots .entry)) * (4 * (degree + 1))) room ⌝ }
+{
+    room >= piece_count(knots, lo, hi) * (4 * (knots::count(degree) + 1))
 }
 
 fn with_breaks(

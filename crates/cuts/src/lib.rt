@@ -1,8 +1,7 @@
 // A Bezier net cut to a part of its range, in blocks of four numbers.
 ghost use mathlib.Core.Path.{_≡_};
-ghost use mathlib.Core.List.{_∷_, _++_};
 ghost use Prim.Native.Nat.{_+_, _*_, _≤_, _<_};
-ghost use lib.ListN.{length, take, drop};
+ghost use lib.ListN.{length};
 ghost use Rattle.cuts.specs.Cuts.{lerpOf, firstOf, lerps, fromOf, upToOf, restOf, upperPart, lowerPart, restricted};
 
 fn lerp(f: f64, a: f64, b: f64) -> f64
@@ -77,7 +76,7 @@ fn cut_up_to(s: &mut [f64], n: usize, f: f64)
     let mut low = scratch();
     let t = &mut low[..len];
     cut_to(s, n, f, t);
-    points::copy_from_slice(s, t);
+    lists::copy_from_slice(s, t);
 }
 
 // The cut at `f0`.

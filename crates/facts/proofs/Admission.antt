@@ -1,22 +1,21 @@
 -- Numbers 4 to 14: `admit` answers number n when, and only when, row n of the table is the first that the line meets. Assumes nothing.
 use mathlib.Core.Path.{_≡_, refl, sym, ap, _∙_}
-use mathlib.Core.Logic.{_⊎_, inl, inr}
+use mathlib.Core.Logic.{inl, inr}
 use mathlib.Core.Bool.{Bool, true, false, cond, not}
 use mathlib.Core.List.{List, [], _∷_}
-use Prim.Native.Nat.{ℕ, zero, suc, _+_, _-_, _/_, _%_, _^_, _<_, _≤_}
-use native.Mathlib.Nat.{lt-trans, lt-irrefl}
+use Prim.Native.Nat.{ℕ, zero, suc, _+_, _-_, _%_, _^_, _<_}
 use native.Mathlib.Omega.{arith}
 use lib.Dec.{T, ltb, leb, eqb, lit<}
 use lib.ListN.{length, getD}
-use lib.Ieee.{Float, lt, le, neg}
-use Rattle.lists.specs.Tests.{every, eachTwo, total}
+use lib.Ieee.{lt, le, neg}
+use Rattle.lists.specs.Tests.{every, total}
 use Rattle.floats.specs.Floats.{within}
 use Rattle.floats.specs.Sizes.{Within}
 use Rattle.lines.specs.declared.Admission.{Admission}
 use Rattle.lines.specs.declared.Admission.the-variants.{Admitted, InvalidDegree, KnotCount, KnotOutOfRange, KnotsNotIncreasing, MultiplicityTooLarge, ZeroMultiplicity, PoleCountMismatch, PoleCountOutOfRange, WeightCountMismatch, WeightOutOfRange, CoordinateOutOfRange}
-use Rattle.lines.specs.Admit.{admissionNumber, two20, two24, two10, one1024th, inner, degreeOut, knotCountOut, knotOut, notIncreasing, tooLarge, zeroMult, poleMismatch, poleCountOut, weightMismatch, weightOut, coordOut, validateDirection, validatePoles, admitOf}
+use Rattle.lines.specs.Admit.{admissionNumber, two20, two24, two10, one1024th, inner, degreeOut, knotCountOut, knotOut, notIncreasing, tooLarge, zeroMult, poleMismatch, poleCountOut, weightMismatch, weightOut, coordOut, validateDirection, validatePoles}
 use Rattle.facts.specs.Faults.{Line, poles, Fault4, Fault5, Fault6, Fault7, Fault8, Fault9, Fault10, Fault11, Fault12, Fault13, Fault14, LineFault, FirstLineFault, admission}
-use Rattle.facts.proofs.Reflect.{Tests, of-T, of-lt, of-eq, of-or, of-or3, of-not, of-neither, of-over, of-any, of-two, never, same}
+use Rattle.facts.proofs.Reflect.{Tests, of-T, of-lt, of-eq, of-or, of-or3, of-not, of-neither, of-over, of-any, of-two, same}
 use Rattle.facts.proofs.Sizes.{of-within20, of-within24, of-range}
 use Rattle.facts.proofs.Rows.{firstRow, Met, InOrder, first-met, met-first, none-met, met-none, Apart, row, of-row}
 

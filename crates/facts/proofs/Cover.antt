@@ -1,6 +1,6 @@
 -- The pieces of an admitted line over a range that question 15 passes: their ranges are neighbouring breaks within ±2^20, they hold every double of the range, and what is written is their nets. Assumes nothing.
-use mathlib.Core.Path.{_≡_, refl, sym, ap, _∙_}
-use mathlib.Core.Logic.{_⊎_, inl, inr}
+use mathlib.Core.Path.{_≡_, refl, ap, _∙_}
+use mathlib.Core.Logic.{inl, inr}
 use mathlib.Core.Bool.{Bool, true, false, cond, _||_}
 use mathlib.Core.List.{List, [], _∷_, _++_}
 use Prim.Native.Nat.{ℕ, zero, suc, _+_, _*_, _-_, _/_, _≤_, _<_, _^_}
@@ -15,7 +15,6 @@ use Rattle.lists.specs.Parts.{block}
 use Rattle.floats.specs.Floats.{within}
 use Rattle.floats.specs.Sizes.{Within}
 use Rattle.floats.proofs.Order.{le-total, right-number, le-trans-float}
-use Rattle.points.specs.declared.Interval.{Interval}
 use Rattle.lines.specs.declared.Admission.the-variants.{Admitted}
 use Rattle.lines.specs.Admit.{two20}
 use Rattle.lines.proofs.Admitted.{counts}
@@ -26,7 +25,7 @@ use Rattle.pieces.proofs.Lengths.{length-net, length-nets, net-at}
 use Rattle.curves.specs.Curves.{pieceCount, piecesOf}
 use Rattle.questions.specs.Questions.{rangeFits}
 use Rattle.facts.specs.Faults.{Line, admission, bounds}
-use Rattle.facts.specs.Cover.{cutsFrom, cutsOf, joined}
+use Rattle.facts.specs.Cover.{cutsFrom, cutsOf, netsIn}
 use Rattle.facts.proofs.Reflect.{is-true, as-true, both}
 use Rattle.facts.proofs.Sizes.{of-within20}
 
@@ -47,7 +46,7 @@ fits-within x h = of-within20 x .yes (go (le (neg two20) x) (le x two20) (h .0) 
     go false b x y = absurd x
 
 -- what is written is these nets, one after the other
-pub nets-are : (p : ℕ) (knots flat poles : List Float) (t0 : Float) (ts : List Float) → netsOf p knots flat poles (t0 ∷ ts) ≡ joined (cutsFrom p knots flat poles t0 ts)
+pub nets-are : (p : ℕ) (knots flat poles : List Float) (t0 : Float) (ts : List Float) → netsOf p knots flat poles (t0 ∷ ts) ≡ netsIn (cutsFrom p knots flat poles t0 ts)
 unfolding netsOf cutsFrom
 nets-are p knots flat poles t0 [] = refl
 nets-are p knots flat poles t0 (t1 ∷ ts) = ap (λ l. netOf p knots flat poles t0 t1 ++ l) (nets-are p knots flat poles t1 ts)
@@ -208,7 +207,7 @@ module _ (l : Line) (lo hi : Float) where
   pieces-count = length-cuts (l .degree) (l .knots) _ _ lo (between lo hi (l .knots) (hi ∷ []))
 
   -- what `curve_pieces` writes is the nets of these, one after the other, and so many numbers
-  pub pieces-written : piecesOf (l .degree) (l .knots) (l .mults) (l .coords) (l .weights) lo hi ≡ joined (cutsOf l lo hi)
+  pub pieces-written : piecesOf (l .degree) (l .knots) (l .mults) (l .coords) (l .weights) lo hi ≡ netsIn (cutsOf l lo hi)
   unfolding piecesOf
   pieces-written = nets-are (l .degree) (l .knots) _ _ lo (between lo hi (l .knots) (hi ∷ []))
 

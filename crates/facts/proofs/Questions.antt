@@ -9,15 +9,14 @@ use lib.Dec.{T, ltb, lit<}
 use lib.Ieee.{Float, lt, le}
 use Rattle.lists.specs.Tests.{eachTwo}
 use Rattle.floats.specs.Floats.{zero64, within, middle}
-use Rattle.floats.specs.Sizes.{Within}
 use Rattle.lines.specs.declared.Admission.the-variants.{Admitted}
 use Rattle.lines.specs.Admit.{two24}
 use Rattle.knots.specs.Knots.{breaksOf}
 use Rattle.questions.specs.declared.Asked.{Asked}
 use Rattle.questions.specs.declared.Asked.the-variants.{Fine, RangeOutOfBounds, GapOutOfRange, TooManySplits, BreaksTooClose}
 use Rattle.questions.specs.Questions.{askedNumber, askedLine, rangeFits, parted, askWithin}
-use Rattle.facts.specs.Faults.{Line, admission, bounds, Finite, Question, Fault15, Fault16, Fault17, Fault18, QuestionFault, Earlier, asked, askedPlace, FirstQuestionFault}
-use Rattle.facts.proofs.Reflect.{Tests, is-true, as-true, never, both, of-T, of-lt, of-not, of-both, of-two, same}
+use Rattle.facts.specs.Faults.{Line, admission, bounds, Question, Fault15, Fault16, Fault18, QuestionFault, Earlier, asked, askedPlace, FirstQuestionFault}
+use Rattle.facts.proofs.Reflect.{Tests, of-T, of-lt, of-not, of-both, of-two, same}
 use Rattle.facts.proofs.Sizes.{of-range, within-finite}
 use Rattle.facts.proofs.Cover.{range-fine}
 use Rattle.facts.proofs.Rows.{firstRow, Met, InOrder, Apart, first-met, met-first, none-met, met-none, row, of-row}

@@ -1,17 +1,16 @@
 -- The tests against ±2^20, ±2^24 and their like decide that a double is finite and at most so large. Assumes nothing.
-use mathlib.Core.Path.{_≡_, refl}
-use mathlib.Core.Bool.{Bool, true, false, cond}
-use Prim.Native.Nat.{ℕ, _*_, _^_, _≤_}
+use mathlib.Core.Bool.{true, false}
+use Prim.Native.Nat.{ℕ, _^_}
 use native.Mathlib.Omega.{arith}
 use lib.Dec.{T}
 use lib.IntN.{pos}
-use lib.Ieee.{Float, nan, inf, fin, up, down, le, neg, ofBits}
+use lib.Ieee.{Float, nan, inf, fin, le, neg, ofBits}
 use Rattle.floats.specs.Floats.{within}
 use Rattle.floats.specs.Sizes.{Within}
 use Rattle.floats.proofs.Order.{of-fin, to-fin}
 use Rattle.lines.specs.Admit.{two20, two24}
 use Rattle.facts.specs.Faults.{Finite}
-use Rattle.facts.proofs.Reflect.{Tests, is-true, as-true, both, of-T, of-both, same}
+use Rattle.facts.proofs.Reflect.{Tests, of-T, of-both, same}
 
 sized : (k : ℕ) (x : Float) → T (le (fin true 1 (pos k)) x) × T (le x (fin false 1 (pos k))) → Within (2 ^ k) x
 unfolding le

@@ -1,9 +1,9 @@
 -- The pieces of a line as a list: for each its range, between neighbouring breaks, and its net. Definitions only.
 use Prim.Native.Nat.{ℕ, _/_}
-use mathlib.Core.List.{List, [], _∷_, _++_}
-use lib.Dec.{T}
+use mathlib.Core.List.{List, [], _∷_, map}
 use lib.ListN.{length}
-use lib.Ieee.{Float, le}
+use lib.Ieee.{Float}
+use Rattle.lists.specs.Parts.{joined}
 use Rattle.floats.specs.Stations.{Cut}
 use Rattle.poles.specs.Poles.{homogeneousPoles}
 use Rattle.knots.specs.Knots.{flatKnots, between}
@@ -21,6 +21,5 @@ cutsOf l lo hi =
     cutsFrom (l .degree) (l .knots) (flatKnots (l .knots) (l .mults)) (homogeneousPoles (l .coords) (l .weights) (length (l .coords) / 3) 0) lo (between lo hi (l .knots) (hi ∷ []))
 
 -- the nets of the cuts, one after the other
-abbrev pub joined : List Cut → List Float
-joined [] = []
-joined (c ∷ cs) = c .net ++ joined cs
+abbrev pub netsIn : List Cut → List Float
+netsIn cs = joined (map (λ (c : Cut). c .net) cs)

@@ -12,7 +12,7 @@ use Rattle.floats.specs.Floats.{zero64, middle}
 use Rattle.floats.specs.Sizes.{Within}
 use Rattle.points.specs.declared.Interval.{Interval}
 use Rattle.lines.specs.declared.Admission.{Admission}
-use Rattle.lines.specs.Admit.{one1024th, two10, two24, inner, admissionNumber, admitOf}
+use Rattle.lines.specs.Admit.{one1024th, two10, two24, inner, admitOf}
 use Rattle.knots.specs.Knots.{boundsOf, breaksOf}
 use Rattle.questions.specs.declared.Asked.{Asked}
 use Rattle.questions.specs.Questions.{askedNumber, askedLine, askOf}

@@ -3,7 +3,7 @@
 use mathlib.Core.Path.{_≡_, refl, ap, sym, _∙_, subst}
 use mathlib.Core.Logic.{dite}
 use mathlib.Core.Bool.{Bool, true, false, true≢false}
-use Prim.Native.Nat.{ℕ, zero, suc, _+_, _*_, _^_, _≤_, _<_}
+use Prim.Native.Nat.{ℕ, suc, _+_, _*_, _^_, _≤_, _<_}
 use native.Mathlib.Nat.{le-of-lt, mul-pos, mul-le-mul, mul-le-mul-right, lt-of-mul-lt-mul-right}
 use native.Mathlib.Decide.{decLe}
 use native.Mathlib.Omega.{arith}
@@ -15,7 +15,7 @@ use lib.Ieee.Fits.{down-pos, add-fits}
 use lib.Ieee.Exact.{HasValue, round-exact}
 use lib.Ieee.Order.{round-mono, le-of-values}
 use Rattle.roots.specs.Root.{rootIn, rootOf}
-use Rattle.roots.specs.Nearest.{Rooted, BelowHalfWay, AboveHalfWay}
+use Rattle.roots.specs.Nearest.{BelowHalfWay, AboveHalfWay}
 use Rattle.roots.proofs.Held.{held}
 use Rattle.roots.proofs.Nearest.{root-nearest}
 use Rattle.roots.proofs.Mono.{root-mono}

@@ -1,14 +1,14 @@
 -- The middle of a range, 0.5 × (lo + hi) rounded at each operation: of two bounded ends it is bounded by the same power of two, so it is no NaN. Assumes nothing.
 use mathlib.Core.Path.{_≡_, refl, ap, sym, _∙_, subst}
-use mathlib.Core.Bool.{Bool, true, false, not, _&&_, _||_, cond, Bool·beq}
-use Prim.Native.Nat.{ℕ, zero, suc, _+_, _-_, _*_, _/_, _^_, _≤_, _<_}
+use mathlib.Core.Bool.{Bool, true, false, _&&_, cond, Bool·beq}
+use Prim.Native.Nat.{ℕ, zero, suc, _+_, _-_, _*_, _^_, _≤_, _<_}
 use native.Mathlib.Nat.{le-trans, le-of-eq, mul-comm, mul-assoc, mul-right-comm, mul-pos, mul-le-mul-right, le-of-mul-le-mul-right, mul-one, one-mul, add-mul}
 use native.Mathlib.Omega.{arith}
-use lib.IntN.{ℤ, pos, negsuc}
-use lib.Pow.{pow-add, pow-pos, pow-lt}
-use lib.Dec.{T, ltb, eqb, ltb→lt, eqb→eq, lit<}
+use lib.IntN.{negsuc}
+use lib.Pow.{pow-add, pow-lt}
+use lib.Dec.{T, ltb, lit<}
 use lib.Ieee.{Float, nan, inf, fin, Format, binary64, prec, emax, low, up, down, unlike, odd, units, round, sum, add, mul, le, ofBits}
-use lib.Ieee.Fits.{down-pos, core, round-is, and-l}
+use lib.Ieee.Fits.{down-pos}
 use lib.Ieee.Exact.{HasValue, round-exact}
 use lib.Ieee.Order.{round-mono}
 use Rattle.floats.specs.Floats.{half64, middle}

@@ -1,13 +1,13 @@
 -- The order of floats: `le` is reflexive and total where no NaN stands, and transitive everywhere; least and greatest bound both. Assumes nothing.
 use mathlib.Core.Path.{_≡_, refl, ap, sym, _∙_, subst}
 use mathlib.Core.Logic.{_⊎_, inl, inr}
-use mathlib.Core.Bool.{Bool, true, false, not, _&&_, _||_, cond, Bool·beq}
+use mathlib.Core.Bool.{Bool, true, false, not, _&&_, _||_, cond}
 use Prim.Native.Nat.{ℕ, zero, suc, _+_, _*_, _≤_, _<_}
-use native.Mathlib.Nat.{le-refl, le-trans, le-of-eq, le-of-lt, mul-comm, zero-mul, mul-pos, eq-or-lt-of-le}
+use native.Mathlib.Nat.{le-of-eq, le-of-lt, zero-mul, mul-pos, eq-or-lt-of-le}
 use native.Mathlib.Omega.{arith}
-use lib.Dec.{T, leb, ltb, eqb, leb→le, nleb→lt, ltb→lt, lt→ltb, nltb→le, eqb→eq, eqb-refl}
-use lib.Ieee.{Float, nan, inf, fin, up, down, lt, eq, le, isNan}
-use lib.Ieee.Fits.{up-pos, down-pos, and-l, and-r, and-i, eq→eqb}
+use lib.Dec.{T, leb, ltb, eqb, leb→le, nleb→lt, ltb→lt, lt→ltb, eqb→eq, eqb-refl}
+use lib.Ieee.{Float, nan, inf, fin, up, down, lt, eq, le}
+use lib.Ieee.Fits.{down-pos, and-l, and-r, and-i, eq→eqb}
 use lib.Ieee.Positive.{through}
 use lib.Ieee.Bits.{is-true}
 use Rattle.floats.specs.Floats.{least, greatest}

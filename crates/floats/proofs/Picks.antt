@@ -7,7 +7,7 @@ use lib.Ieee.Bits.{is-true}
 use Rattle.floats.specs.Floats.{least, greatest}
 use Rattle.floats.specs.Sizes.{Number}
 use Rattle.floats.proofs.Order.{eq-self}
-use Rattle.floats.proofs.Bounds.{lt-not-le, is-false}
+use Rattle.floats.proofs.Bounds.{lt-not-le}
 use Rattle.floats.proofs.Sums.{not-le-lt}
 
 number : (a : Float) → eq a a ≡ true → Number a

@@ -1,7 +1,7 @@
 -- Rounded sums and products keep the order: b + r is no more than b + q for r at most q, with every sign, and g × l no more than g × n for g from 0 up. Assumes nothing.
 use mathlib.Core.Path.{_≡_, refl, ap, sym, _∙_, subst}
 use mathlib.Core.Logic.{dite}
-use mathlib.Core.Bool.{Bool, true, false, not, _&&_, cond, Bool·beq, true≢false}
+use mathlib.Core.Bool.{Bool, true, false, not, _&&_, cond, true≢false}
 use Prim.Native.Nat.{ℕ, zero, suc, _+_, _-_, _*_, _^_, _≤_, _<_}
 use native.Mathlib.Nat.{le-of-lt, mul-pos, mul-le-mul-right, zero-mul}
 use native.Mathlib.Decide.{decLe}

@@ -84,6 +84,10 @@ module _ {A : Type 0} where
       let c : i + length (a ++ b) ≡ j + length b = simp length-append (omega arith) in
       rw (t, d, c) (append-assoc (take i l) a (b ++ drop (j + length b) l) ∙ ap (λ (z : List A). take i l ++ z) (sym (append-assoc a b (drop (j + length b) l))))
 
+  -- the same of what two calls leave
+  pub both-writes : (l : List A) (i j : ℕ) (a b : List A) {l1 l2 : List A} → j ≡ i + length a → j + length b ≤ length l → l1 ≡ patch l i a → l2 ≡ patch l1 j b → l2 ≡ patch l i (a ++ b)
+  both-writes l i j a b h k e f = f ∙ ap (λ (o : List A). patch o j b) e ∙ patch-twice l i j a b h k
+
   -- ---- two stores in a row
   pub two-stores : (l : List A) (i : ℕ) (a b : A) → i + 2 ≤ length l → set (set l i a) (i + 1) b ≡ patch l i (a ∷ b ∷ [])
   two-stores l i a b h =

@@ -1,8 +1,8 @@
 -- Laws of tests over a list: what one turn and the last one do. Assumes nothing.
 use mathlib.Core.Path.{_≡_, refl, sym, _∙_}
-use mathlib.Core.Bool.{Bool, true, false}
+use mathlib.Core.Bool.{Bool, true, false, _&&_}
 use mathlib.Core.List.{List, [], _∷_}
-use Prim.Native.Nat.{ℕ, zero, suc, _+_, _-_, _≤_, _<_}
+use Prim.Native.Nat.{ℕ, _+_, _-_, _≤_, _<_}
 use native.Mathlib.Numerals.{add-one}
 use native.Mathlib.Omega.{arith}
 use lib.ListN.{length, getD, drop, length-drop}
@@ -10,6 +10,14 @@ use lib.Seq.{drop-cons}
 use Rattle.lists.specs.Tests.{every, eachTwo, total}
 use Rattle.lists.proofs.Loops.{nothing-left, two, one-on}
 
+-- ---- two tests, the second made where the first holds
+pub and-then : (a b x y : Bool) → x ≡ a → x ≡ true → y ≡ b → y ≡ (a && b)
+and-then a b x y e t f = rw (← e, t, f) refl
+
+pub and-not : (a b x : Bool) → x ≡ a → x ≡ false → false ≡ (a && b)
+and-not a b x e t = rw (← e, t) refl
+
+-- ---- over a list
 pub every-on : {A : Type 0} (t : A → Bool) (l : List A) (i : ℕ) (d : A) → i < length l → t (getD l i d) ≡ true → every t (drop (i + 1) l) ≡ every t (drop i l)
 unfolding every
 every-on t l i d lt h = rw (drop-cons l i d lt, h, add-one) refl

@@ -1,17 +1,17 @@
 -- No sequence of verdicts loses a pair of stations: the machine's invariants, for every list of verdicts. Assumes nothing.
-use mathlib.Core.Path.{_≡_, refl, ap, sym, _∙_, subst}
+use mathlib.Core.Path.{_≡_, refl, ap, sym, subst}
 use mathlib.Core.Logic.{_⊎_, inl, inr}
-use mathlib.Core.List.{List, [], _∷_, _++_, reverse, reverseAux}
-use mathlib.Core.Bool.{Bool, true, false, not, _&&_, _||_, cond}
-use Prim.Native.Nat.{ℕ, zero, suc, _+_, _*_, _≤_, _<_}
+use mathlib.Core.List.{List, [], _∷_, _++_, reverse}
+use mathlib.Core.Bool.{Bool, true, false, not, cond}
+use Prim.Native.Nat.{ℕ, zero, suc, _+_, _≤_, _<_}
 use native.Mathlib.Omega.{arith}
-use lib.Dec.{T, leb, eqb, leb→le, nleb→lt}
+use lib.Dec.{T, leb, nleb→lt}
 use lib.ListN.{length, length-append, length-reverse}
-use Rattle.lists.specs.Members.{Any, All, Pairwise}
-use Rattle.lists.proofs.Members.{any-left, any-right, any-append, any-reverse, any-map, all-append, all-map, all-reverse}
+use Rattle.lists.specs.Members.{Any, All}
+use Rattle.lists.proofs.Members.{any-left, any-right, any-reverse, all-append, all-reverse}
 use Rattle.verdicts.specs.declared.Verdict.{Verdict}
 use Rattle.verdicts.specs.declared.Verdict.the-variants.{Settled, Split, Unseparated}
-use Rattle.machine.specs.Machine.{Shape, Spot, Node, Settling, Search, limit, half, descend, partOf, depth, InNode, atPieces, row, pushed, fresh, deeper, child, larger, ended, giveUp, divide, onTop, advance}
+use Rattle.machine.specs.Machine.{Shape, Node, Search, limit, half, descend, partOf, depth, InNode, atPieces, row, pushed, fresh, child, larger, giveUp, divide, onTop, advance}
 use Rattle.machine.specs.Covered.{SetApart, Covered, byBoxes, bySettled, byGiven, byWaiting}
 
 -- node k from the bottom, counted from 0, has k ≤ pairs - 1 + its depth; and its depth is at most the limit

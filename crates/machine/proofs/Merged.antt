@@ -1,15 +1,15 @@
 -- What merging gives: no two regions touch, nothing listed is lost, and no region comes from nothing. Assumes nothing.
 use mathlib.Core.Path.{_≡_, refl, ap, sym, _∙_, subst}
 use mathlib.Core.Logic.{_⊎_, inl, inr}
-use mathlib.Core.List.{List, [], _∷_, _++_, reverse, reverseAux}
-use mathlib.Core.Bool.{Bool, true, false, not, _&&_, _||_, cond, true≢false, false≢true}
-use Prim.Native.Nat.{ℕ, zero, suc, _+_, _*_, _≤_, _<_}
+use mathlib.Core.List.{List, [], _∷_, _++_, reverse}
+use mathlib.Core.Bool.{Bool, true, false, not, cond}
+use Prim.Native.Nat.{ℕ, zero, suc, _+_, _≤_, _<_}
 use native.Mathlib.Omega.{arith}
-use lib.Dec.{T, leb, eqb, eqb→eq}
+use lib.Dec.{T, eqb, eqb→eq}
 use lib.ListN.{length, length-append, length-reverse}
 use lib.Ieee.Fits.{eq→eqb}
 use Rattle.lists.specs.Members.{Any, All, Pairwise}
-use Rattle.lists.proofs.Members.{any-left, any-right, any-append, any-reverse, any-map, all-append, all-map, all-reverse}
+use Rattle.lists.proofs.Members.{any-left, any-right, any-reverse, all-append, all-map, all-reverse}
 use Rattle.machine.specs.Merge.{Merging, Grown, take1, keep1, grown, remaining, grow, takeIn, gather, insert, ordered, merged}
 use Rattle.machine.specs.Covered.{Off}
 

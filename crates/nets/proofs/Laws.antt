@@ -1,14 +1,14 @@
 -- Laws of slots and of points: what one turn and the last one of a loop over them do. Assumes nothing.
 use mathlib.Core.Path.{_≡_, refl, sym, ap, _∙_}
 use mathlib.Core.List.{List, [], _∷_, _++_, append-assoc, append-nil}
-use Prim.Native.Nat.{ℕ, zero, suc, _+_, _*_, _-_, _/_, _≤_, _<_}
+use Prim.Native.Nat.{ℕ, _+_, _*_, _-_, _/_, _≤_, _<_}
 use native.Mathlib.Nat.{add-zero}
 use native.Mathlib.Numerals.{add-one}
 use native.Mathlib.Omega.{arith}
 use lib.ListN.{length, getD, take, drop, set, length-append, length-drop, take-append-drop, List·getD-append}
-use lib.Seq.{length-take-le, take-all, take-at, drop-at, take-add, drop-drop, take-append-add, getD-take, getD-drop, getD-append-add, sets-eq, paste, paste-zero, paste-suc, length-paste}
+use lib.Seq.{length-take-le, take-all, take-at, drop-at, take-add, drop-drop, take-append-add, getD-take, getD-drop, getD-append-add, paste, paste-suc}
 use lib.Ieee.{Float, nan, binary64, div}
-use Rattle.lists.specs.Parts.{part, block, patch}
+use Rattle.lists.specs.Parts.{part, patch}
 use Rattle.lists.specs.Rounds.{paired, remains, firsts}
 use Rattle.lists.proofs.Parts.{part-length, patch-length}
 use Rattle.lists.proofs.Loops.{drop4}
@@ -17,14 +17,6 @@ use Rattle.floats.specs.Floats.{middle}
 use Rattle.nets.specs.Points.{pointsOf}
 use Rattle.nets.specs.Halving.{lowerOf, upperOf}
 use Rattle.nets.specs.Slots.{splitSlot, copySlot}
-
--- ---- three stores in a row
-pub three : {A : Type 0} (l : List A) (i : ℕ) (a b c : A) → i + 3 ≤ length l
-    → set (set (set l i a) (i + 1) b) (i + 2) c ≡ patch l i (a ∷ b ∷ c ∷ [])
-three l i a b c h =
-    let e1 : i + 1 ≡ suc i = omega arith in
-    let e2 : i + 2 ≡ suc (suc i) = omega arith in
-    rw (e1, e2) (sets-eq (a ∷ b ∷ c ∷ []) l i h ∙ append-assoc (take i l) (a ∷ b ∷ c ∷ []) (drop (i + 3) l))
 
 -- ---- Euclidean points, one point a turn
 pub points-turn : (net out out' : List Float) (n i : ℕ) → i < n → n * 4 ≤ length net → length out ≡ n * 3

@@ -1,9 +1,8 @@
 -- What the search takes from the geometry, and one line's range and net as a part of the machine. Definitions only.
 use mathlib.Core.List.{List, [], _∷_}
-use mathlib.Core.Bool.{Bool, true, false}
-use lib.Dec.{T}
+use mathlib.Core.Bool.{Bool}
 use lib.ListN.{getD}
-use lib.Ieee.{Float, nan, le}
+use lib.Ieee.{Float, nan}
 use Rattle.floats.specs.Stations.{InRange, Piece}
 use Rattle.verdicts.specs.declared.Verdict.{Verdict}
 use Rattle.floats.specs.Floats.{middle}

@@ -106,13 +106,13 @@ fn split_ranges(ranges: &mut [f64], k: usize, second: bool)
     let b1 = ranges[at + 3];
     if second {
         let mid = floats::mean(b0, b1);
-        nets::put4(ranges, at, a0, a1, mid, b1);
-        nets::put4(ranges, at + 4, a0, a1, b0, mid);
+        lists::put4(ranges, at, a0, a1, mid, b1);
+        lists::put4(ranges, at + 4, a0, a1, b0, mid);
         return;
     }
     let mid = floats::mean(a0, a1);
-    nets::put4(ranges, at, mid, a1, b0, b1);
-    nets::put4(ranges, at + 4, a0, mid, b0, b1);
+    lists::put4(ranges, at, mid, a1, b0, b1);
+    lists::put4(ranges, at + 4, a0, mid, b0, b1);
 }
 
 // Both halves are one deeper.

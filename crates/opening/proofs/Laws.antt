@@ -1,12 +1,12 @@
 -- The opening's tests, one a return, and the room of what is pushed. Assumes nothing.
 use mathlib.Core.Path.{_≡_, refl, sym, ap, _∙_, subst}
-use mathlib.Core.Bool.{Bool, true, false, not, _&&_, cond, false≢true}
+use mathlib.Core.Bool.{Bool, true, false, not, cond, false≢true}
 use mathlib.Core.List.{List}
-use Prim.Native.Nat.{ℕ, suc, _+_, _-_, _*_, _^_, _≤_, _<_}
+use Prim.Native.Nat.{ℕ, _+_, _-_, _*_, _≤_}
 use native.Mathlib.Nat.{le-trans, mul-le-mul, mul-le-mul-right}
 use native.Mathlib.Omega.{arith}
-use lib.Dec.{leb, ltb}
-use borrow.Author.Tests.{ltb-false, leb-true, lt-leb, le-leb}
+use lib.Dec.{ltb, eqb}
+use borrow.Author.Tests.{ltb-false, ne-eqb}
 use lib.ListN.{length, take, length-reverse}
 use lib.Seq.{length-take-le}
 use lib.Ieee.{Float}
@@ -24,12 +24,12 @@ use Rattle.facts.specs.Faults.{Question, admission, asked, bounds}
 use Rattle.pairs.specs.Nodes.{HasPieces}
 use Rattle.pairs.specs.Pairs.{Pieces, pieces, pairsFrom, nets1Of, nets2Of, rangesOf, depthsOf}
 use Rattle.states.specs.declared.State.{State}
-use Rattle.states.specs.States.{Memory, memory, Sizes, sizes, needed, enough}
-use Rattle.states.proofs.Tests.{and-first, and-second, room-all}
+use Rattle.states.specs.States.{Memory, memory, Sizes, sizes, needed, enough, firstState}
+use Rattle.states.proofs.Tests.{room-all}
 use Rattle.opening.specs.declared.Opened.{Opened}
 use Rattle.opening.specs.declared.Opened.the-variants.{Open, BadLine, BadQuestion, NoRoom}
 use Rattle.opening.specs.Asked.{pushedPairs, start, stateOf}
-use Rattle.opening.specs.Opens.{searchFor, firstState, isAdmitted, isFine, piecesFit, piecesIn, Pushing, pushing, pushDef, pushPairs, Opening, opening, openPieces, openDef}
+use Rattle.opening.specs.Opens.{searchFor, isAdmitted, isFine, piecesFit, piecesIn, pushing, pushDef, pushPairs, Opening, opening, openPieces, openDef}
 use Rattle.opening.proofs.Pushed.{one, other, numbered, pairs-are, memory-is}
 
 -- so many pairs as pieces allow
@@ -124,6 +124,13 @@ has-pieces m w d P out B e f h ew r =
     (rw (e, ew) r, let l : length (take m out) ≡ m = ap length f ∙ sym e in omega arith)
 
 -- ---- from the tests to their meaning
+-- the number of an answer, as computed, is 0 or not
+pub is-zero : (n m : ℕ) → n ≡ m → n ≡ 0 → eqb m 0 ≡ true
+is-zero n m e z = rw (sym e ∙ z) refl
+
+pub not-zero : (n m : ℕ) → n ≡ m → (n ≡ 0 → ⊥) → eqb m 0 ≡ false
+not-zero n m e h = ne-eqb m 0 (λ f. h (e ∙ f))
+
 pub is-admitted : (a : Admission) → isAdmitted a ≡ true → a ≡ Admitted
 is-admitted Admitted e = refl
 is-admitted InvalidDegree e = absurd (false≢true e)
@@ -151,18 +158,3 @@ few-splits q e =
     let c = passed (not (within zero64 two24 (q .gap))) GapOutOfRange _ refl (b .1) in
     let d = passed (ltb 256 (q .splits)) TooManySplits _ refl (c .1) in
     ltb-false 256 (q .splits) (d .0)
-
-pub both-fit : (a b m n : ℕ) → (leb a m && leb b n) ≡ true → (a ≤ m) × (b ≤ n)
-both-fit a b m n e = (leb-true a m (and-first (leb a m) (leb b n) e), leb-true b n (and-second (leb a m) (leb b n) e))
-
--- 4 × width a piece of at most 129 pieces is no large number
-pub need-small : (n w : ℕ) → n ≤ 129 → w ≤ 26 → n * (4 * w) < 2 ^ 64
-need-small n w h k = let g : 4 * w ≤ 104 = omega arith in let m = mul-le-mul h g in omega arith
-
--- the two tests of `pieces_fit`
-module _ (n n' w d m a b : ℕ) (en : n ≡ n') (ew : w ≡ d) where
-  pub fits-short : m < n * (4 * (w + 1)) → false ≡ (leb (n' * (4 * (d + 1))) m && leb a b)
-  fits-short h = rw (lt-leb (n' * (4 * (d + 1))) m (subst (λ (z : ℕ). m < z) (λ i. en i * (4 * (ew i + 1))) h)) refl
-
-  pub fits-first : n * (4 * (w + 1)) ≤ m → leb a b ≡ (leb (n' * (4 * (d + 1))) m && leb a b)
-  fits-first h = rw (le-leb (n' * (4 * (d + 1))) m (subst (λ (z : ℕ). z ≤ m) (λ i. en i * (4 * (ew i + 1))) h)) refl

@@ -2,15 +2,14 @@
 use mathlib.Core.Path.{_≡_, refl, sym, ap, _∙_}
 use mathlib.Core.Bool.{Bool, true, false, cond}
 use mathlib.Core.List.{List, [], _∷_, _++_, map}
-use Prim.Native.Nat.{ℕ, zero, suc, _+_, _-_, _*_, _/_, _≤_, _<_}
+use Prim.Native.Nat.{ℕ, zero, suc, _+_, _-_, _/_, _<_}
 use native.Mathlib.Numerals.{add-one}
 use native.Mathlib.Omega.{arith}
 use lib.ListN.{length, getD, drop}
 use lib.Ieee.{Float, nan}
-use Rattle.lists.specs.Parts.{block, patch}
-use Rattle.floats.specs.Stations.{Piece, Cut, piecesFrom}
+use Rattle.lists.specs.Parts.{patch, joined}
+use Rattle.floats.specs.Stations.{Piece, piecesFrom}
 use Rattle.boxes.specs.Boxes.{boxesApart}
-use Rattle.boxes.specs.Nets.{boxOf}
 use Rattle.poles.specs.Poles.{homogeneousPoles}
 use Rattle.knots.specs.Knots.{flatKnots, between, breaksOf}
 use Rattle.pieces.specs.Pieces.{netOf}
@@ -18,12 +17,12 @@ use Rattle.curves.specs.Curves.{pieceCount, piecesOf}
 use Rattle.facts.specs.Faults.{Line, Question}
 use Rattle.facts.specs.Cover.{cutsFrom, cutsOf}
 use Rattle.facts.proofs.Cover.{piece-at}
-use Rattle.pairs.specs.Pairs.{Pair, Pieces, pieces, netAt, boxAt, rowFrom, pairsFrom, joined, rangesAt, nets1Of, nets2Of, rangesOf, depthsOf}
+use Rattle.pairs.specs.Pairs.{Pair, Pieces, pieces, netAt, boxAt, rowFrom, pairsFrom, nets1Of, nets2Of, rangesOf, depthsOf}
 use Rattle.machine.specs.Machine.{Node, atPieces, row, pushed}
 use Rattle.states.specs.States.{Memory, memory}
 use Rattle.nodes.specs.Geometry.{floats}
 use Rattle.nodes.specs.Nets.{geometry}
-use Rattle.opening.specs.Asked.{Asked, shape, pieces1, pieces2, pushedPairs, pairsOf, concat, netOf1, netOf2, rangesOf as nodeRanges, depthOf, openMemory}
+use Rattle.opening.specs.Asked.{pushedPairs, pairsOf, netOf1, netOf2, rangesOf as nodeRanges, depthOf, openMemory}
 use Rattle.opening.specs.Opens.{searchFor, piecesIn}
 
 -- ---- a list by its numbers: n elements from number i on
@@ -120,19 +119,19 @@ module _ (q : Question) (p1 p2 : List Float) where
   pub pairs-are : pairsOf (searchFor q) ≡ length numbered
   pairs-are = ap length all-pushed ∙ mapped-length (nodeOf (q .gap) one other) numbered
 
-  nets1-join : (ks : List Pair) → concat (map (netOf1 (searchFor q)) (map (nodeOf (q .gap) one other) ks)) ≡ nets1Of one ks
+  nets1-join : (ks : List Pair) → joined (map (netOf1 (searchFor q)) (map (nodeOf (q .gap) one other) ks)) ≡ nets1Of one ks
   nets1-join [] = refl
   nets1-join (k ∷ ks) = ap (λ (l : List Float). netAt one (k .i) ++ l) (nets1-join ks)
 
-  nets2-join : (ks : List Pair) → concat (map (netOf2 (searchFor q)) (map (nodeOf (q .gap) one other) ks)) ≡ nets2Of other ks
+  nets2-join : (ks : List Pair) → joined (map (netOf2 (searchFor q)) (map (nodeOf (q .gap) one other) ks)) ≡ nets2Of other ks
   nets2-join [] = refl
   nets2-join (k ∷ ks) = ap (λ (l : List Float). netAt other (k .j) ++ l) (nets2-join ks)
 
-  ranges-join : (ks : List Pair) → concat (map (nodeRanges (searchFor q)) (map (nodeOf (q .gap) one other) ks)) ≡ rangesOf one other ks
+  ranges-join : (ks : List Pair) → joined (map (nodeRanges (searchFor q)) (map (nodeOf (q .gap) one other) ks)) ≡ rangesOf one other ks
   ranges-join [] = refl
   ranges-join (k ∷ ks) = rw (add-one (k .i), add-one (k .j)) (ap (λ (l : List Float). nodeRanges (searchFor q) (nodeOf (q .gap) one other k) ++ l) (ranges-join ks))
 
-  depths-join : (ks : List Pair) → concat (map (depthOf (searchFor q)) (map (nodeOf (q .gap) one other) ks)) ≡ depthsOf ks
+  depths-join : (ks : List Pair) → joined (map (depthOf (searchFor q)) (map (nodeOf (q .gap) one other) ks)) ≡ depthsOf ks
   depths-join [] = refl
   depths-join (k ∷ ks) = ap (λ (l : List ℕ). 0 ∷ l) (depths-join ks)
 
@@ -141,8 +140,8 @@ module _ (q : Question) (p1 p2 : List Float) where
       → r ≡ patch (u .ranges) 0 (rangesOf one other numbered) → d ≡ patch (u .depths) 0 (depthsOf numbered)
       → memory n1 n2 r d (u .raw) ≡ openMemory (searchFor q) u
   memory-is u n1 n2 r d e1 e2 e3 e4 =
-      let f1 = e1 ∙ ap (patch (u .nets1) 0) (sym (nets1-join numbered) ∙ (λ i. concat (map (netOf1 (searchFor q)) (sym all-pushed i)))) in
-      let f2 = e2 ∙ ap (patch (u .nets2) 0) (sym (nets2-join numbered) ∙ (λ i. concat (map (netOf2 (searchFor q)) (sym all-pushed i)))) in
-      let f3 = e3 ∙ ap (patch (u .ranges) 0) (sym (ranges-join numbered) ∙ (λ i. concat (map (nodeRanges (searchFor q)) (sym all-pushed i)))) in
-      let f4 = e4 ∙ ap (patch (u .depths) 0) (sym (depths-join numbered) ∙ (λ i. concat (map (depthOf (searchFor q)) (sym all-pushed i)))) in
+      let f1 = e1 ∙ ap (patch (u .nets1) 0) (sym (nets1-join numbered) ∙ (λ i. joined (map (netOf1 (searchFor q)) (sym all-pushed i)))) in
+      let f2 = e2 ∙ ap (patch (u .nets2) 0) (sym (nets2-join numbered) ∙ (λ i. joined (map (netOf2 (searchFor q)) (sym all-pushed i)))) in
+      let f3 = e3 ∙ ap (patch (u .ranges) 0) (sym (ranges-join numbered) ∙ (λ i. joined (map (nodeRanges (searchFor q)) (sym all-pushed i)))) in
+      let f4 = e4 ∙ ap (patch (u .depths) 0) (sym (depths-join numbered) ∙ (λ i. joined (map (depthOf (searchFor q)) (sym all-pushed i)))) in
       λ i. memory (f1 i) (f2 i) (f3 i) (f4 i) (u .raw)

@@ -4,7 +4,7 @@ use mathlib.Core.Bool.{cond}
 use Prim.Native.Nat.{ℕ, _*_}
 use lib.ListN.{length}
 use lib.Ieee.{Float}
-use Rattle.lists.specs.Parts.{patch}
+use Rattle.lists.specs.Parts.{patch, joined}
 use Rattle.machine.specs.Machine.{Shape, Node, Search, partOf, depth, pushed, fresh, ended}
 use Rattle.regions.specs.declared.Region.{Region}
 use Rattle.states.specs.declared.State.{State}
@@ -79,10 +79,6 @@ abbrev pub rawList : (q : Asked) → Search (shape q) → List Region
 rawList q m = map (regionOf (q .geometry) (q .gap)) (m .given ++ reverse (m .stack))
 
 -- ---- the memory after the opening: node k of the pushed list owns slot k
-abbrev pub concat : {A : Type 0} → List (List A) → List A
-concat [] = []
-concat (l ∷ ls) = l ++ concat ls
-
 abbrev pub netOf1 : (q : Asked) → Node (shape q) → List Float
 netOf1 q n = partOf (shape q) (n .a) .net
 
@@ -97,9 +93,9 @@ depthOf q n = depth (shape q) n ∷ []
 
 abbrev pub openMemory : Asked → Memory → Memory
 openMemory q u = record {
-  nets1 = patch (u .nets1) 0 (concat (map (netOf1 q) (pushedPairs q)));
-  nets2 = patch (u .nets2) 0 (concat (map (netOf2 q) (pushedPairs q)));
-  ranges = patch (u .ranges) 0 (concat (map (rangesOf q) (pushedPairs q)));
-  depths = patch (u .depths) 0 (concat (map (depthOf q) (pushedPairs q)));
+  nets1 = patch (u .nets1) 0 (joined (map (netOf1 q) (pushedPairs q)));
+  nets2 = patch (u .nets2) 0 (joined (map (netOf2 q) (pushedPairs q)));
+  ranges = patch (u .ranges) 0 (joined (map (rangesOf q) (pushedPairs q)));
+  depths = patch (u .depths) 0 (joined (map (depthOf q) (pushedPairs q)));
   raw = u .raw;
 }

@@ -1,24 +1,21 @@
 -- The opening on two lines, a question, the piece slices and the lent memory (document 01: the table in its order, then "Number 19 is tested for the piece slices before any
 -- write; tested later for nodes, nets or raw regions, it leaves the pieces written and the rest unchanged"). Definitions only.
 use mathlib.Core.List.{List}
-use mathlib.Core.Bool.{Bool, true, false, not, _&&_, cond}
+use mathlib.Core.Bool.{Bool, _&&_, cond}
 use Prim.Native.Nat.{ℕ, _+_, _*_}
-use lib.Dec.{leb}
+use lib.Dec.{leb, eqb}
 use lib.ListN.{length}
 use lib.Ieee.{Float}
 use Rattle.lists.specs.Parts.{patch}
 use Rattle.lines.specs.declared.Admission.{Admission}
-use Rattle.lines.specs.declared.Admission.the-variants.{Admitted, InvalidDegree, KnotCount, KnotOutOfRange, KnotsNotIncreasing, MultiplicityTooLarge, ZeroMultiplicity, PoleCountMismatch, PoleCountOutOfRange, WeightCountMismatch, WeightOutOfRange, CoordinateOutOfRange}
 use Rattle.lines.specs.Admit.{admissionNumber}
 use Rattle.questions.specs.declared.Asked.{Asked as AskAnswer}
-use Rattle.questions.specs.declared.Asked.the-variants.{Fine, RangeOutOfBounds, GapOutOfRange, TooManySplits, BreaksTooClose}
 use Rattle.questions.specs.Questions.{askedNumber, askedLine}
 use Rattle.curves.specs.Curves.{pieceCount, piecesOf}
 use Rattle.facts.specs.Faults.{Line, Question, admission, asked}
 use Rattle.facts.specs.Cover.{cutsOf}
-use Rattle.states.specs.declared.State.{State}
 use Rattle.pairs.specs.Pairs.{Pieces, pairsFrom, nets1Of, nets2Of, rangesOf, depthsOf}
-use Rattle.states.specs.States.{Memory, memory, sizes, needed, enough}
+use Rattle.states.specs.States.{Memory, memory, sizes, needed, enough, firstState}
 use Rattle.nodes.specs.Nets.{geometry}
 use Rattle.opening.specs.declared.Question.{Question as Asking}
 use Rattle.opening.specs.declared.Opened.{Opened}
@@ -61,31 +58,12 @@ lineOf degree knots mults coords weights = record { degree = degree; knots = kno
 abbrev pub questionOf : Asking → Line → Line → Question
 questionOf a l1 l2 = record { line1 = l1; lo1 = a .lo1; hi1 = a .hi1; line2 = l2; lo2 = a .lo2; hi2 = a .hi2; gap = a .gap; splits = a .splits }
 
--- the state of a fresh search of P pairs: all wait, and S × P may be spent
-abbrev pub firstState : ℕ → ℕ → ℕ → ℕ → Float → State
-firstState P S w1 w2 gap = record { pairs = P; quota = S; waiting = P; visits = 0; splits = 0; unspent = S * P; settled = 0; given = 0; width1 = w1; width2 = w2; gap = gap; stopped = false }
-
 -- ---- the tests
 abbrev pub isAdmitted : Admission → Bool
-isAdmitted Admitted = true
-isAdmitted InvalidDegree = false
-isAdmitted KnotCount = false
-isAdmitted KnotOutOfRange = false
-isAdmitted KnotsNotIncreasing = false
-isAdmitted MultiplicityTooLarge = false
-isAdmitted ZeroMultiplicity = false
-isAdmitted PoleCountMismatch = false
-isAdmitted PoleCountOutOfRange = false
-isAdmitted WeightCountMismatch = false
-isAdmitted WeightOutOfRange = false
-isAdmitted CoordinateOutOfRange = false
+isAdmitted a = eqb (admissionNumber a) 0
 
 abbrev pub isFine : AskAnswer → Bool
-isFine Fine = true
-isFine (RangeOutOfBounds line) = false
-isFine GapOutOfRange = false
-isFine TooManySplits = false
-isFine (BreaksTooClose line) = false
+isFine a = eqb (askedNumber a) 0
 
 -- "4 × width a piece", for each line
 abbrev pub piecesNeed : Line → Float → Float → ℕ

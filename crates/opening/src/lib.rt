@@ -1,8 +1,6 @@
 // The opening of a search: admission of both lines and the question, the pieces, the pairs, the first state.
 ghost use mathlib.Core.Path.{_≡_};
-ghost use mathlib.Core.Bool.{_&&_};
 ghost use Prim.Native.Nat.{_+_, _*_, _≤_};
-ghost use lib.Dec.{leb};
 ghost use lib.ListN.{length};
 ghost use Rattle.lines.specs.declared.Admission.the-variants.{Admitted};
 ghost use Rattle.lines.specs.Admit.{admitOf};
@@ -11,7 +9,7 @@ ghost use Rattle.curves.specs.Curves.{pieceCount};
 ghost use Rattle.pairs.specs.Pairs.{pieces};
 ghost use Rattle.pairs.specs.Nodes.{HasPieces};
 ghost use Rattle.states.specs.States.{memory};
-ghost use Rattle.opening.specs.Opens.{isAdmitted, isFine, lineOf, questionOf, firstState, Pushing, pushing, pushPairs, Opening, opening, openPieces, openDef};
+ghost use Rattle.opening.specs.Opens.{lineOf, questionOf, Pushing, pushing, pushPairs, Opening, opening, openPieces, openDef};
 use lines::Admission;
 use questions::Asked;
 use states::State;
@@ -32,58 +30,6 @@ pub struct Question {
     pub hi2: f64,
     pub gap: f64,
     pub splits: u32,
-}
-
-fn is_admitted(a: Admission) -> bool
-    ensures { λ r. ⌜ r ≡ isAdmitted a ⌝ }
-{
-    match a {
-        Admission::Admitted => true,
-        Admission::InvalidDegree => false,
-        Admission::KnotCount => false,
-        Admission::KnotOutOfRange => false,
-        Admission::KnotsNotIncreasing => false,
-        Admission::MultiplicityTooLarge => false,
-        Admission::ZeroMultiplicity => false,
-        Admission::PoleCountMismatch => false,
-        Admission::PoleCountOutOfRange => false,
-        Admission::WeightCountMismatch => false,
-        Admission::WeightOutOfRange => false,
-        Admission::CoordinateOutOfRange => false,
-    }
-}
-
-fn is_fine(a: Asked) -> bool
-    ensures { λ r. ⌜ r ≡ isFine a ⌝ }
-{
-    match a {
-        Asked::Fine => true,
-        Asked::RangeOutOfBounds(line) => false,
-        Asked::GapOutOfRange => false,
-        Asked::TooManySplits => false,
-        Asked::BreaksTooClose(line) => false,
-    }
-}
-
-// The state of a fresh search of so many pairs.
-fn first_state(q: Question, pairs: usize, w1: usize, w2: usize) -> State
-    requires { ⌜ (pairs ≤ 16641) × (w1 ≤ 26) × (w2 ≤ 26) × (q .splits ≤ 256) ⌝ }
-    ensures { λ r. ⌜ r ≡ firstState pairs (q .splits) w1 w2 (q .gap) ⌝ }
-{
-    State {
-        pairs: pairs as u16,
-        quota: q.splits as u16,
-        waiting: pairs as u32,
-        visits: 0,
-        splits: 0,
-        unspent: q.splits * pairs as u32,
-        settled: 0,
-        given: 0,
-        width1: w1 as u8,
-        width2: w2 as u8,
-        gap: q.gap,
-        stopped: false,
-    }
 }
 
 // The pairs pushed, if there is room for them.
@@ -120,7 +66,7 @@ fn push(
         &mut boxes1,
         &mut boxes2,
     );
-    let st = first_state(q, n, w1, w2);
+    let st = states::fresh(n, q.splits, w1, w2, q.gap);
     if !states::has_room(
         st,
         nets1.len(),
@@ -256,27 +202,6 @@ fn open_pieces(
     )
 }
 
-// Whether the piece slices are long enough: 4 × width a piece.
-fn pieces_fit(
-    q: Question,
-    degree1: u32,
-    knots1: &[f64],
-    length1: usize,
-    degree2: u32,
-    knots2: &[f64],
-    length2: usize,
-) -> bool
-    requires { ⌜ (length (now knots1) ≤ 128) × (length (now knots2) ≤ 128) × (degree1 ≤ 25) × (degree2 ≤ 25) ⌝ }
-    ensures { λ r. ⌜ r ≡ (leb (pieceCount (q .lo1) (q .hi1) (now (knots1 .entry)) * (4 * (degree1 + 1))) length1 && leb (pieceCount (q .lo2) (q .hi2) (now (knots2 .entry)) * (4 * (degree2 + 1))) length2) ⌝ }
-{
-    let n1 = curves::piece_count(knots1, q.lo1, q.hi1);
-    let n2 = curves::piece_count(knots2, q.lo2, q.hi2);
-    if length1 < n1 * (4 * (knots::count(degree1) + 1)) {
-        return false;
-    }
-    length2 >= n2 * (4 * (knots::count(degree2) + 1))
-}
-
 // The opening: numbers 4 to 14 of the first line, then of the second, 15 to 18, 19 for the piece slices; then the pieces are written, 19 is tested for the rest, and the pairs are pushed.
 pub fn open(
     q: Question,
@@ -301,11 +226,11 @@ pub fn open(
     ensures { λ r. ⌜ _≡_ {A = Opening} (opening r (now (pieces1 .exit)) (now (pieces2 .exit)) (memory (now (nets1 .exit)) (now (nets2 .exit)) (now (ranges .exit)) (now (depths .exit)) (now (raw .entry)))) (openDef (questionOf q (lineOf degree1 (now (knots1 .entry)) (now (mults1 .entry)) (now (coords1 .entry)) (now (weights1 .entry))) (lineOf degree2 (now (knots2 .entry)) (now (mults2 .entry)) (now (coords2 .entry)) (now (weights2 .entry)))) (now (pieces1 .entry)) (now (pieces2 .entry)) (memory (now (nets1 .entry)) (now (nets2 .entry)) (now (ranges .entry)) (now (depths .entry)) (now (raw .entry)))) ⌝ }
 {
     let a1 = lines::admit(degree1, knots1, mults1, coords1, weights1);
-    if !is_admitted(a1) {
+    if lines::admission_number(a1) != 0 {
         return Opened::BadLine(1, a1);
     }
     let a2 = lines::admit(degree2, knots2, mults2, coords2, weights2);
-    if !is_admitted(a2) {
+    if lines::admission_number(a2) != 0 {
         return Opened::BadLine(2, a2);
     }
     let a = questions::ask(
@@ -326,18 +251,13 @@ pub fn open(
         q.gap,
         q.splits,
     );
-    if !is_fine(a) {
+    if questions::asked_number(a) != 0 {
         return Opened::BadQuestion(a);
     }
-    if !pieces_fit(
-        q,
-        degree1,
-        knots1,
-        pieces1.len(),
-        degree2,
-        knots2,
-        pieces2.len(),
-    ) {
+    if !curves::pieces_fit(degree1, knots1, q.lo1, q.hi1, pieces1.len()) {
+        return Opened::NoRoom;
+    }
+    if !curves::pieces_fit(degree2, knots2, q.lo2, q.hi2, pieces2.len()) {
         return Opened::NoRoom;
     }
     open_pieces(

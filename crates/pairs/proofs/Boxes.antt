@@ -1,12 +1,12 @@
 -- Boxes in a list of floats: six floats read and written, and the boxes of the pieces one behind the other. Assumes nothing.
 use mathlib.Core.Path.{_≡_, refl, ap, sym, _∙_}
-use mathlib.Core.List.{List, _++_, append-assoc}
+use mathlib.Core.List.{List, _++_}
 use Prim.Native.Nat.{ℕ, zero, suc, _+_, _*_, _≤_, _<_}
 use native.Mathlib.Nat.{add-zero, zero-add, le-trans, mul-le-mul-right}
 use native.Mathlib.Numerals.{add-one}
 use native.Mathlib.Omega.{arith}
-use lib.ListN.{length, getD, take, drop, set}
-use lib.Seq.{sets-eq, getD-take, getD-drop, take-at, drop-drop}
+use lib.ListN.{length, getD, take, drop}
+use lib.Seq.{getD-take, getD-drop, take-at, drop-drop}
 use lib.Ieee.{Float, nan}
 use Rattle.lists.specs.Parts.{block, patch}
 use Rattle.lists.proofs.Parts.{block-take, patch-twice, patch-length}
@@ -19,17 +19,6 @@ pub slot-below : (k n w len : ℕ) → k < n → n * w ≤ len → (k + 1) * w �
 slot-below k n w len h r = le-trans (mul-le-mul-right w (let g : k + 1 ≤ n = omega arith in g)) r
 
 -- ---- six floats
--- six stores in a row are a box in its place
-pub six : (l : List Float) (i : ℕ) (b : Aabb) → i + 6 ≤ length l
-    → set (set (set (set (set (set l i (b .x0)) (i + 1) (b .y0)) (i + 2) (b .z0)) (i + 3) (b .x1)) (i + 4) (b .y1)) (i + 5) (b .z1) ≡ patch l i (sixOf b)
-six l i b h =
-    let e1 : i + 1 ≡ suc i = omega arith in
-    let e2 : i + 2 ≡ suc (suc i) = omega arith in
-    let e3 : i + 3 ≡ suc (suc (suc i)) = omega arith in
-    let e4 : i + 4 ≡ suc (suc (suc (suc i))) = omega arith in
-    let e5 : i + 5 ≡ suc (suc (suc (suc (suc i)))) = omega arith in
-    rw (e1, e2, e3, e4, e5) (sets-eq (sixOf b) l i h ∙ append-assoc (take i l) (sixOf b) (drop (i + 6) l))
-
 -- a box reads six floats and no more
 box-start : (n : ℕ) (l : List Float) → 6 ≤ n → boxIn (take n l) ≡ boxIn l
 box-start n l h =

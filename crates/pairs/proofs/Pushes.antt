@@ -9,11 +9,11 @@ use native.Mathlib.Omega.{arith}
 use lib.ListN.{length, take, drop, set, length-append, take-append-drop}
 use lib.Seq.{set-split}
 use lib.Ieee.{Float}
-use Rattle.lists.specs.Parts.{patch}
+use Rattle.lists.specs.Parts.{patch, joined}
 use Rattle.lists.proofs.Parts.{part-length, patch-twice}
 use Rattle.boxes.specs.declared.Aabb.{Aabb}
 use Rattle.boxes.specs.Boxes.{boxesApart}
-use Rattle.pairs.specs.Pairs.{Pair, Pieces, netAt, boxAt, rowFrom, pairsFrom, joined, rangesAt, nets1Of, nets2Of, rangesOf, depthsOf}
+use Rattle.pairs.specs.Pairs.{Pair, Pieces, netAt, boxAt, rowFrom, pairsFrom, rangesAt, nets1Of, nets2Of, rangesOf, depthsOf}
 use Rattle.pairs.specs.Nodes.{Nodes, nodes, pair, pushed, Room, HasPieces}
 use Rattle.pairs.proofs.Boxes.{slot-below}
 

@@ -1,11 +1,11 @@
 -- The pairs of pieces that are pushed, by their numbers (document 01, module Search: "A pair is pushed unless its boxes are apart by the gap"; a loop, first line's
 -- pieces ascending, then the second's). Definitions only.
 use mathlib.Core.List.{List, [], _∷_, _++_, map}
-use mathlib.Core.Bool.{Bool, cond}
+use mathlib.Core.Bool.{cond}
 use Prim.Native.Nat.{ℕ, zero, suc, _+_, _*_}
 use lib.ListN.{getD}
 use lib.Ieee.{Float, nan}
-use Rattle.lists.specs.Parts.{block}
+use Rattle.lists.specs.Parts.{block, joined}
 use Rattle.boxes.specs.declared.Aabb.{Aabb}
 use Rattle.boxes.specs.Boxes.{boxesApart}
 use Rattle.boxes.specs.Nets.{boxOf}
@@ -44,10 +44,6 @@ pairsFrom gap p q m zero i = []
 pairsFrom gap p q m (suc n) i = rowFrom gap p q i m 0 ++ pairsFrom gap p q m n (suc i)
 
 -- ---- what a pushed pair writes: the nets, the four range ends, and depth 0, one pair after the other
-abbrev pub joined : {A : Type 0} → List (List A) → List A
-joined [] = []
-joined (l ∷ ls) = l ++ joined ls
-
 abbrev pub rangesAt : Pieces → Pieces → Pair → List Float
 rangesAt p q k = getD (p .breaks) (k .i) nan ∷ getD (p .breaks) (k .i + 1) nan ∷ getD (q .breaks) (k .j) nan ∷ getD (q .breaks) (k .j + 1) nan ∷ []
 

@@ -24,12 +24,8 @@ fn put_box(s: &mut [f64], i: usize, b: Aabb)
     ensures { λ r. ⌜ now (s .exit) ≡ patch (now (s .entry)) (i * 6) (sixOf b) ⌝ }
 {
     let at = i * 6;
-    s[at] = b.x0;
-    s[at + 1] = b.y0;
-    s[at + 2] = b.z0;
-    s[at + 3] = b.x1;
-    s[at + 4] = b.y1;
-    s[at + 5] = b.z1;
+    lists::put3(s, at, b.x0, b.y0, b.z0);
+    lists::put3(s, at + 3, b.x1, b.y1, b.z1);
 }
 
 // The box in the i-th place of six floats.
@@ -127,7 +123,8 @@ fn put_slot(nets: &[f64], i: usize, w: usize, slots: &mut [f64], k: usize)
 {
     let from = k * (4 * w);
     let to = from + 4 * w;
-    nets::copy_into(nets::slot(nets, i, w), &mut slots[from..to]);
+    let net = nets::slot(nets, i, w);
+    lists::copy_from_slice(&mut slots[from..to], net);
 }
 
 // Node k becomes the pair of pieces i and j.
@@ -152,7 +149,7 @@ fn put_pair(
 {
     put_slot(pieces1, i, w1, nets1, k);
     put_slot(pieces2, j, w2, nets2, k);
-    nets::put4(
+    lists::put4(
         ranges,
         k * 4,
         breaks1[i],

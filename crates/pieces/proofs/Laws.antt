@@ -13,7 +13,6 @@ use Rattle.lists.proofs.Loops.{two, one-on}
 use Rattle.floats.specs.Floats.{middle}
 use Rattle.points.specs.declared.Interval.{Interval}
 use Rattle.lists.specs.Parts.{patch}
-use Rattle.lists.proofs.Parts.{lent-length}
 use Rattle.cuts.specs.Cuts.{restricted}
 use Rattle.pieces.proofs.Lengths.{length-nets}
 use Rattle.pieces.specs.Pieces.{held, netAt, spanBezier, share, cutTo, netOf, netsOf}

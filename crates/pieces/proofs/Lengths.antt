@@ -5,14 +5,13 @@ use mathlib.Core.List.{List, [], _∷_, _++_, append-assoc}
 use Prim.Native.Nat.{ℕ, zero, suc, _+_, _-_, _*_, _≤_, _<_}
 use native.Mathlib.Nat.{zero-mul, suc-mul}
 use native.Mathlib.Omega.{arith}
-use lib.ListN.{length, getD, take, drop, length-append}
-use lib.Seq.{length-take-le, take-at, drop-append-add}
+use lib.ListN.{length, getD, length-append}
+use lib.Seq.{take-at, drop-append-add}
 use lib.Ieee.{Float, nan, lt}
-use Rattle.lists.specs.Rounds.{remains, firsts}
-use Rattle.lists.proofs.Rounds.{length-paired, length-remains, length-firsts}
+use Rattle.lists.proofs.Rounds.{length-remains, length-firsts}
 use Rattle.blends.specs.Blends.{pointsFrom}
 use Rattle.floats.specs.Floats.{zero64, one64}
-use Rattle.cuts.specs.Cuts.{lerpOf, lerps, fromOf, upToOf, restOf, upperPart, lowerPart, restricted}
+use Rattle.cuts.specs.Cuts.{lerpOf, fromOf, upToOf, restOf, upperPart, lowerPart, restricted}
 use Rattle.lists.specs.Parts.{block}
 use Rattle.pieces.specs.Pieces.{netAt, spanBezier, cutTo, netOf, netsOf}
 

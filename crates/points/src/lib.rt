@@ -1,4 +1,4 @@
-// Homogeneous points of four numbers and parameter ranges, by value; points stored in a slice, and slices copied.
+// Homogeneous points of four numbers and parameter ranges, by value; points stored in a slice.
 ghost use mathlib.Core.Path.{_≡_};
 ghost use mathlib.Core.List.{[], _∷_};
 ghost use Prim.Native.Nat.{_+_, _≤_};
@@ -24,20 +24,5 @@ pub fn put(s: &mut [f64], at: usize, q: Point4D)
     requires { ⌜ at + 4 ≤ length (now s) ⌝ }
     ensures { λ r. ⌜ now (s .exit) ≡ patch (now (s .entry)) at (q .x ∷ q .y ∷ q .z ∷ q .w ∷ []) ⌝ }
 {
-    s[at] = q.x;
-    s[at + 1] = q.y;
-    s[at + 2] = q.z;
-    s[at + 3] = q.w;
-}
-
-// `to` becomes `from`, as by Rust's `copy_from_slice`.
-pub fn copy_from_slice(to: &mut [f64], from: &[f64])
-    requires { ⌜ length (now to) ≡ length (now from) ⌝ }
-    ensures { λ r. ⌜ now (to .exit) ≡ now (from .entry) ⌝ }
-{
-    let mut x = 0;
-    while x < from.len() {
-        to[x] = from[x];
-        x += 1;
-    }
+    lists::put4(s, at, q.x, q.y, q.z, q.w);
 }

@@ -5,7 +5,7 @@ ghost use lib.ListN.{length};
 ghost use Rattle.lists.specs.Tests.{eachTwo};
 ghost use Rattle.lines.specs.declared.Admission.the-variants.{Admitted};
 ghost use Rattle.lines.specs.Admit.{admitOf};
-ghost use Rattle.knots.specs.Knots.{boundsOf, breaksOf};
+ghost use Rattle.knots.specs.Knots.{breaksOf};
 ghost use Rattle.questions.specs.Questions.{askedNumber, askedLine, rangeFits, parted, askWithin, askOf};
 
 // Why a question is refused, or that it is fine. A number 1 or 2 is the line at fault.

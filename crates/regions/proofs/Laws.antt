@@ -1,13 +1,12 @@
 -- Regions in a list of floats: ten floats read and written, and the list of regions that stands there. Assumes nothing.
 use mathlib.Core.Path.{_≡_, refl, ap, sym, _∙_}
 use mathlib.Core.List.{List, [], _∷_, _++_, append-assoc, append-nil}
-use mathlib.Core.Bool.{Bool, true, false, _&&_}
 use Prim.Native.Nat.{ℕ, zero, suc, _+_, _-_, _*_, _≤_, _<_}
 use native.Mathlib.Nat.{add-zero}
 use native.Mathlib.Numerals.{add-one}
 use native.Mathlib.Omega.{arith}
 use lib.ListN.{length, getD, take, drop, set, replicate, length-replicate, length-append, length-drop, take-append-drop}
-use lib.Seq.{sets-eq, getD-take, getD-drop, length-take-le, take-add, drop-drop, drop-at, take-at, drop-set-lt, take-suc-set, set-split, ext-getD}
+use lib.Seq.{getD-take, getD-drop, length-take-le, take-add, drop-drop, drop-at, take-at, drop-set-lt, take-suc-set, set-split, ext-getD}
 use lib.Ieee.{Float, nan}
 use Rattle.lists.specs.Parts.{block, patch}
 use Rattle.floats.specs.Floats.{least, greatest}
@@ -15,13 +14,6 @@ use Rattle.regions.specs.declared.Region.{Region}
 use Rattle.regions.specs.Regions.{unionOf, flat, flats, regionAt, regionsIn}
 use Rattle.lists.proofs.Loops.{nothing-left}
 use Rattle.lists.proofs.Parts.{block-take}
-
--- ---- two tests, the second made where the first holds
-pub and-then : (a b x y : Bool) → x ≡ a → x ≡ true → y ≡ b → y ≡ (a && b)
-and-then a b x y e t f = rw (← e, t, f) refl
-
-pub and-not : (a b x : Bool) → x ≡ a → x ≡ false → false ≡ (a && b)
-and-not a b x e t = rw (← e, t) refl
 
 -- ---- ten floats
 -- ten least and greatest are a union
@@ -31,21 +23,6 @@ pub united : (r q : Region) {a0 a1 b0 b1 x0 y0 z0 x1 y1 z1 : Float}
     → x1 ≡ greatest (r .x1) (q .x1) → y1 ≡ greatest (r .y1) (q .y1) → z1 ≡ greatest (r .z1) (q .z1)
     → _≡_ {A = Region} (record { a0 = a0; a1 = a1; b0 = b0; b1 = b1; x0 = x0; y0 = y0; z0 = z0; x1 = x1; y1 = y1; z1 = z1 }) (unionOf r q)
 united r q a b c d e f g h j k = λ i. record { a0 = a i; a1 = b i; b0 = c i; b1 = d i; x0 = e i; y0 = f i; z0 = g i; x1 = h i; y1 = j i; z1 = k i }
-
--- ten stores in a row are a region in its place
-pub ten : (l : List Float) (i : ℕ) (r : Region) → i + 10 ≤ length l
-    → set (set (set (set (set (set (set (set (set (set l i (r .a0)) (i + 1) (r .a1)) (i + 2) (r .b0)) (i + 3) (r .b1)) (i + 4) (r .x0)) (i + 5) (r .y0)) (i + 6) (r .z0)) (i + 7) (r .x1)) (i + 8) (r .y1)) (i + 9) (r .z1) ≡ patch l i (flat r)
-ten l i r h =
-    let e1 : i + 1 ≡ suc i = omega arith in
-    let e2 : i + 2 ≡ suc (suc i) = omega arith in
-    let e3 : i + 3 ≡ suc (suc (suc i)) = omega arith in
-    let e4 : i + 4 ≡ suc (suc (suc (suc i))) = omega arith in
-    let e5 : i + 5 ≡ suc (suc (suc (suc (suc i)))) = omega arith in
-    let e6 : i + 6 ≡ suc (suc (suc (suc (suc (suc i))))) = omega arith in
-    let e7 : i + 7 ≡ suc (suc (suc (suc (suc (suc (suc i)))))) = omega arith in
-    let e8 : i + 8 ≡ suc (suc (suc (suc (suc (suc (suc (suc i))))))) = omega arith in
-    let e9 : i + 9 ≡ suc (suc (suc (suc (suc (suc (suc (suc (suc i)))))))) = omega arith in
-    rw (e1, e2, e3, e4, e5, e6, e7, e8, e9) (sets-eq (flat r) l i h ∙ append-assoc (take i l) (flat r) (drop (i + 10) l))
 
 -- a region reads ten floats and no more
 pub region-start : (n : ℕ) (l : List Float) → 10 ≤ n → regionAt (take n l) ≡ regionAt l

@@ -81,16 +81,9 @@ pub fn store(s: &mut [f64], i: usize, r: Region)
     ensures { λ _. ⌜ now (s .exit) ≡ patch (now (s .entry)) (i * 10) (flat r) ⌝ }
 {
     let at = i * 10;
-    s[at] = r.a0;
-    s[at + 1] = r.a1;
-    s[at + 2] = r.b0;
-    s[at + 3] = r.b1;
-    s[at + 4] = r.x0;
-    s[at + 5] = r.y0;
-    s[at + 6] = r.z0;
-    s[at + 7] = r.x1;
-    s[at + 8] = r.y1;
-    s[at + 9] = r.z1;
+    lists::put4(s, at, r.a0, r.a1, r.b0, r.b1);
+    lists::put3(s, at + 4, r.x0, r.y0, r.z0);
+    lists::put3(s, at + 7, r.x1, r.y1, r.z1);
 }
 
 // The region in the i-th place of ten floats.

@@ -1,8 +1,8 @@
 -- The regions of the nodes left, one a turn, and the tests of a report. Assumes nothing.
 use mathlib.Core.Path.{_≡_, refl, sym, ap, _∙_}
-use mathlib.Core.Bool.{Bool, true, false, _&&_, cond}
+use mathlib.Core.Bool.{true, false, _&&_}
 use mathlib.Core.List.{List, [], _∷_, _++_, append-assoc}
-use Prim.Native.Nat.{ℕ, zero, suc, _+_, _-_, _*_, _^_, _≤_, _<_}
+use Prim.Native.Nat.{ℕ, zero, suc, _+_, _*_, _≤_, _<_}
 use native.Mathlib.Nat.{le-trans, mul-le-mul-right}
 use native.Mathlib.Numerals.{add-one}
 use native.Mathlib.Omega.{arith}
@@ -11,7 +11,7 @@ use lib.ListN.{length, length-append}
 use lib.Ieee.{Float}
 use borrow.Author.Tests.{leb-true, eqb-true}
 use Rattle.lists.specs.Parts.{patch}
-use Rattle.lists.proofs.Parts.{patch-twice, patch-length}
+use Rattle.lists.proofs.Parts.{patch-twice}
 use Rattle.machine.specs.Merge.{merged}
 use Rattle.regions.specs.declared.Region.{Region}
 use Rattle.regions.specs.declared.Word.{Word}
@@ -23,9 +23,8 @@ use Rattle.states.specs.declared.Counts.{Counts}
 use Rattle.states.specs.States.{Memory, memory, Sizes, sizes, needed, enough, topFits, searchWith, isSearch, over, countsOf}
 use Rattle.nodes.specs.Geometry.{Geometry}
 use Rattle.states.proofs.Tests.{and-first, and-second, slots-fit, room-all}
-use Rattle.report.specs.declared.Reported.{Reported}
 use Rattle.report.specs.declared.Reported.the-variants.{Told, Running, NoRoom}
-use Rattle.report.specs.Reports.{Reporting, reporting, slotRegion, leftRegions, rawAfter, writeReport, reportDef}
+use Rattle.report.specs.Reports.{reporting, slotRegion, leftRegions, rawAfter, writeReport, reportDef}
 
 -- slot k is there, of so many as there are nodes
 pub slot-below : (k n w len : ℕ) → k < n → n * w ≤ len → (k + 1) * w ≤ len

@@ -8,7 +8,7 @@ use native.Mathlib.Decide.{decLe}
 use native.Mathlib.Omega.{arith}
 use lib.Dec.{T}
 use lib.Pow.{pow-pos, pow-add, pow-mono}
-use lib.Ieee.{Float, nan, inf, fin, Format, binary64, prec, emax, low, hid, up, down, nearest, units, size, ofBits, fits}
+use lib.Ieee.{Float, nan, inf, fin, Format, binary64, prec, emax, low, hid, up, down, units, size, ofBits, fits}
 use lib.Ieee.Fits.{down-pos}
 use lib.Ieee.Exact.{HasValue}
 use Rattle.roots.specs.Root.{isqrt, rounded, rootUnits, rootIn, rootOf}

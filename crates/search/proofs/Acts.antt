@@ -1,5 +1,5 @@
 -- What each verdict does, from what its writes make of each slice. Assumes nothing.
-use mathlib.Core.Path.{_≡_, refl, sym, ap, _∙_}
+use mathlib.Core.Path.{_≡_, refl, ap, _∙_}
 use mathlib.Core.Bool.{Bool, true, false, not}
 use mathlib.Core.List.{List, [], _∷_, _++_}
 use Prim.Native.Nat.{ℕ, zero, suc, _+_, _-_, _*_, _/_, _≤_, _<_}
@@ -24,7 +24,7 @@ use Rattle.search.specs.declared.Stepped.the-variants.{Next}
 use Rattle.nodes.specs.Geometry.{regionWith}
 use Rattle.nodes.specs.Nets.{bothBoxes, geometry}
 use Rattle.nodes.specs.Moves.{settledState, givenState, stoppedState, halvedState}
-use Rattle.search.specs.Steps.{Stepping, stepping, part1, part2, halves, splitMemory, giveUpAt, divideAt, actOn}
+use Rattle.search.specs.Steps.{stepping, part1, part2, halves, splitMemory, giveUpAt, divideAt, actOn}
 use Rattle.nodes.specs.Writes.{slotsAfter, rangesHalved, rangesAfter, depthsAfter}
 
 -- ---- the nets of a split

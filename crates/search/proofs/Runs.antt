@@ -1,6 +1,6 @@
 -- The loop: one turn follows the definition, and each step lowers what is left. Assumes nothing.
 use mathlib.Core.Path.{_≡_, refl, sym, ap, _∙_, subst}
-use mathlib.Core.Logic.{_⊎_, inl, inr, ⊎-elim}
+use mathlib.Core.Logic.{_⊎_, inl, inr}
 use mathlib.Core.Bool.{Bool, true, false, _&&_, _||_, cond, true≢false, false≢true}
 use Prim.Native.Nat.{ℕ, zero, suc, _+_, _*_, _≤_, _<_}
 use native.Mathlib.Numerals.{add-one}
@@ -11,15 +11,15 @@ use Rattle.verdicts.specs.declared.Verdict.{Verdict}
 use Rattle.verdicts.specs.declared.Verdict.the-variants.{Settled, Split, Unseparated}
 use Rattle.machine.specs.Machine.{limit}
 use Rattle.states.specs.declared.State.{State}
-use Rattle.states.specs.States.{Memory, sizes, needed, enough, enoughOwn, depthAt, isSearch, over}
+use Rattle.states.specs.States.{Memory, sizes, needed, enough, depthAt, isSearch, over}
 use Rattle.search.specs.declared.Stepped.{Stepped}
 use Rattle.search.specs.declared.Stepped.the-variants.{Next, Ended, NoRoom}
 use Rattle.search.specs.declared.Own.{Own}
 use Rattle.search.specs.declared.Own.the-variants.{Is, Ended as OwnEnded, NoRoom as OwnNoRoom}
 use Rattle.nodes.specs.Geometry.{Geometry}
 use Rattle.nodes.specs.Moves.{settledState, givenState, stoppedState, halvedState}
-use Rattle.search.specs.Steps.{Stepping, stepping, part1, part2, divideAt, actOn, stepDef, judgeAt, ownDef}
-use Rattle.search.specs.Runs.{carriedOut, ownStepDef, turned, runFor, runDef}
+use Rattle.search.specs.Steps.{Stepping, stepping, part1, part2, divideAt, actOn, stepDef, ownDef}
+use Rattle.search.specs.Runs.{carriedOut, ownStepDef, turned, runFor}
 use Rattle.states.proofs.Tests.{waits}
 
 -- ---- what is left to do falls with each step, or the search stops

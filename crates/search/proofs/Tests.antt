@@ -1,34 +1,31 @@
 -- What the tests of a call give: each refusal, and the room of an accepted call. Assumes nothing.
 use mathlib.Core.Path.{_≡_, refl, sym, ap, _∙_, subst}
-use mathlib.Core.Bool.{Bool, true, false, _&&_, _||_, cond, true≢false, false≢true}
-use mathlib.Core.List.{List}
+use mathlib.Core.Bool.{Bool, true, false, _&&_}
 use Prim.Native.Nat.{ℕ, zero, suc, _+_, _-_, _*_, _≤_, _<_}
-use native.Mathlib.Nat.{le-trans, mul-le-mul, mul-le-mul-right, mul-one}
+use native.Mathlib.Nat.{le-trans, mul-le-mul, mul-le-mul-right}
 use native.Mathlib.Omega.{arith}
-use lib.Dec.{leb, eqb}
-use lib.Ieee.{Float}
-use borrow.Author.Tests.{leb-true, eqb-true}
+use lib.ListN.{length}
 use Rattle.lists.specs.Parts.{block}
 use Rattle.verdicts.specs.declared.Verdict.{Verdict}
 use Rattle.states.specs.declared.State.{State}
-use Rattle.states.specs.States.{Memory, Sizes, sizes, needed, enough, enoughOwn, depthAt, topFits, searchWith, topDepth, isSearch, isZero, over}
-use Rattle.states.proofs.Tests.{waits, sound, slots-fit, room-all}
-use Rattle.search.specs.declared.Stepped.the-variants.{Next, Ended, NoRoom}
+use Rattle.states.specs.States.{Memory, Sizes, sizes, needed, enough, enoughOwn, depthAt, topDepth, searchWith, isSearch, over, topOf}
+use Rattle.states.proofs.Tests.{waits, sound, slots-fit, room-own, room-all, top-slot, top-ended, top-refused, top-node}
+use Rattle.states.specs.declared.Top.the-variants.{Node, Ended as TopEnded, NoRoom as TopNoRoom}
+use Rattle.search.specs.declared.Stepped.the-variants.{Ended, NoRoom}
 use Rattle.search.specs.declared.Own.the-variants.{Is, Ended as OwnEnded, NoRoom as OwnNoRoom}
 use Rattle.nodes.specs.Geometry.{Geometry}
-use Rattle.search.specs.Steps.{Stepping, stepping, part1, part2, actOn, stepDef, judgeAt, ownDef}
-use Rattle.nodes.specs.Writes.{Room, Above}
+use Rattle.search.specs.Steps.{Stepping, stepping, actOn, stepDef, judgeAt, ownDef}
+use Rattle.nodes.specs.Writes.{Room}
 
 -- ---- the own verdict
 module _ (G : Geometry) (x : State) (u : Memory) where
-  pub own-ended : over x ≡ true → OwnEnded ≡ ownDef G x u
-  own-ended o = rw o refl
+  pub own-ended : (b : Bool) → TopEnded ≡ topOf x b (u .depths) → OwnEnded ≡ ownDef G x u
+  own-ended b e = rw (top-ended x b (u .depths) e) refl
 
-  pub own-short : over x ≡ false → enoughOwn (needed x) (sizes u) ≡ false → OwnNoRoom ≡ ownDef G x u
-  own-short o e = rw (o, e) refl
-
-  pub own-forged : over x ≡ false → enoughOwn (needed x) (sizes u) ≡ true → isSearch x u ≡ false → OwnNoRoom ≡ ownDef G x u
-  own-forged o e s = rw (o, e, s) refl
+  pub own-refused : (b : Bool) → b ≡ enoughOwn (needed x) (sizes u) → TopNoRoom ≡ topOf x b (u .depths) → OwnNoRoom ≡ ownDef G x u
+  own-refused b h e =
+      let t = top-refused x b (u .depths) e in
+      rw (t .0, ap (λ (a : Bool). a && isSearch x u) (sym h) ∙ t .1) refl
 
   pub own-judged : (v : Verdict) → over x ≡ false → enoughOwn (needed x) (sizes u) ≡ true → isSearch x u ≡ true
       → v ≡ G .clearing (x .gap) (block (4 * x .width1) (x .waiting - 1) (u .nets1)) (block (4 * x .width2) (x .waiting - 1) (u .nets2)) → Is v ≡ ownDef G x u
@@ -37,6 +34,20 @@ module _ (G : Geometry) (x : State) (u : Memory) where
       go : (n : ℕ) → 1 ≤ n → v ≡ G .clearing (x .gap) (block (4 * x .width1) (n - 1) (u .nets1)) (block (4 * x .width2) (n - 1) (u .nets2)) → Is v ≡ judgeAt G n x u
       go zero w h = absurd (omega arith)
       go (suc k) w h = let e : suc k - 1 ≡ k = omega arith in ap Is (rw e at h)
+
+-- the own verdict of node k, the top, at the depth d
+module _ (x : State) (u : Memory) (b : Bool) (k d : ℕ) (h : b ≡ enoughOwn (needed x) (sizes u)) (e : Node k d ≡ topOf x b (u .depths)) where
+  pub judged-slots : ((k + 1) * (4 * x .width1) ≤ length (u .nets1)) × ((k + 1) * (4 * x .width2) ≤ length (u .nets2))
+  judged-slots =
+      let t = top-node x b (u .depths) k d e in
+      let r = room-own x (sizes u) (sym h ∙ t .1) in
+      let slot : (n len : ℕ) → (x .pairs + 64) * n ≤ len → (k + 1) * n ≤ len = λ n len f. subst (λ (j : ℕ). (j + 1) * n ≤ len) (sym (t .3)) (top-slot x _ n len (t .0) (t .2) f) in
+      (slot (4 * x .width1) (length (u .nets1)) (r .nets1), slot (4 * x .width2) (length (u .nets2)) (r .nets2))
+
+  pub judged : (G : Geometry) (v : Verdict) → v ≡ G .clearing (x .gap) (block (4 * x .width1) k (u .nets1)) (block (4 * x .width2) k (u .nets2)) → Is v ≡ ownDef G x u
+  judged G v f =
+      let t = top-node x b (u .depths) k d e in
+      own-judged G x u v (t .0) (sym h ∙ t .1) (t .2) (f ∙ ap (λ (j : ℕ). G .clearing (x .gap) (block (4 * x .width1) j (u .nets1)) (block (4 * x .width2) j (u .nets2))) (t .3))
 
 -- ---- a step
 -- an accepted step has room; the two bounds are those of the state's 16-bit fields
@@ -74,15 +85,45 @@ room x d s hp hq o e f =
           };
     }
 
+-- what an accepted step knows of node k, the top, at the depth d
+pub record Accepted (x : State) (u : Memory) (k d : ℕ) : Type 0 where
+  pub runs : over x ≡ false
+  pub lent : enough (needed x) (sizes u) ≡ true
+  pub sound : searchWith x d ≡ true
+  pub top : x .waiting ≡ suc k
+  pub depth : d ≡ topDepth (x .waiting) (u .depths)
+
+pub accepted : (x : State) (u : Memory) (b : Bool) (k d : ℕ) → b ≡ enough (needed x) (sizes u) → Node k d ≡ topOf x b (u .depths) → Accepted x u k d
+accepted x u b k d h e =
+    let t = top-node x b (u .depths) k d e in
+    record {
+      runs = t .0;
+      lent = sym h ∙ t .1;
+      sound = ap (searchWith x) (t .4) ∙ t .2;
+      top = (let w = waits x (t .0) in let z = t .3 in omega arith);
+      depth = t .4;
+    }
+
+module _ (x : State) (u : Memory) (k d : ℕ) (A : Accepted x u k d) where
+  pub accepted-room : x .pairs ≤ 65535 → x .quota ≤ 65535 → Room x k d (sizes u)
+  accepted-room hp hq =
+      let at : x .waiting - 1 ≡ k = (let t = A .top in omega arith) in
+      subst (λ (j : ℕ). Room x j d (sizes u)) at (room x d (sizes u) hp hq (A .runs) (A .lent) (A .sound))
+
+  pub accepted-depth : d ≡ depthAt (u .depths) k
+  accepted-depth = A .depth ∙ ap (λ (n : ℕ). topDepth n (u .depths)) (A .top)
+
+  pub accepted-is : isSearch x u ≡ true
+  accepted-is = ap (searchWith x) (sym (A .depth)) ∙ A .sound
+
 module _ (G : Geometry) (x : State) (u : Memory) (v : Verdict) where
-  pub step-ended : over x ≡ true → stepping Ended u ≡ stepDef G x u v
-  step-ended o = rw o refl
+  pub step-ended : (b : Bool) → TopEnded ≡ topOf x b (u .depths) → stepping Ended u ≡ stepDef G x u v
+  step-ended b e = rw (top-ended x b (u .depths) e) refl
 
-  pub step-short : over x ≡ false → enough (needed x) (sizes u) ≡ false → stepping NoRoom u ≡ stepDef G x u v
-  step-short o e = rw (o, e) refl
+  pub step-refused : (b : Bool) → b ≡ enough (needed x) (sizes u) → TopNoRoom ≡ topOf x b (u .depths) → stepping NoRoom u ≡ stepDef G x u v
+  step-refused b h e =
+      let t = top-refused x b (u .depths) e in
+      rw (t .0, ap (λ (a : Bool). a && isSearch x u) (sym h) ∙ t .1) refl
 
-  pub step-forged : over x ≡ false → enough (needed x) (sizes u) ≡ true → isSearch x u ≡ false → stepping NoRoom u ≡ stepDef G x u v
-  step-forged o e s = rw (o, e, s) refl
-
-  pub step-accepted : (r : Stepping) (k : ℕ) → over x ≡ false → enough (needed x) (sizes u) ≡ true → isSearch x u ≡ true → x .waiting ≡ suc k → r ≡ actOn G (suc k) v x u → r ≡ stepDef G x u v
-  step-accepted r k o e s t h = h ∙ ap (λ (n : ℕ). actOn G n v x u) (sym t) ∙ rw (o, e, s) refl
+  pub step-accepted : (r : Stepping) (k d : ℕ) → Accepted x u k d → r ≡ actOn G (suc k) v x u → r ≡ stepDef G x u v
+  step-accepted r k d A h = h ∙ ap (λ (n : ℕ). actOn G n v x u) (sym (A .top)) ∙ rw (A .runs, A .lent, accepted-is x u k d A) refl

@@ -1,7 +1,7 @@
 -- A step and the own verdict on a state and the lent memory (document 01, module Search; `Pairs::search` and `split` of the Rust). Definitions only.
-use mathlib.Core.List.{List, [], _∷_, _++_}
+use mathlib.Core.List.{[], _∷_, _++_}
 use mathlib.Core.Bool.{Bool, true, false, not, _&&_, cond}
-use Prim.Native.Nat.{ℕ, zero, suc, _+_, _*_}
+use Prim.Native.Nat.{ℕ, zero, suc, _*_}
 use lib.Dec.{leb}
 use lib.ListN.{getD}
 use lib.Ieee.{nan}

@@ -12,6 +12,7 @@ ghost use Rattle.search.specs.Steps.{Stepping, stepping, actOn, stepDef,
 ghost use Rattle.search.specs.Runs.{ownStepDef, runDef};
 use boxes::Aabb;
 use states::State;
+use states::Top;
 use verdicts::Verdict;
 
 // What a step answers: the next state, number 20, or number 19.
@@ -34,21 +35,19 @@ pub enum Own {
 pub fn own_verdict<'a>(st: State, nets1: &'a [f64], nets2: &'a [f64], depths: &[u8]) -> Own
     ensures { λ r. ⌜ r ≡ ownDef geometry st (memory (now (nets1 .entry)) (now (nets2 .entry)) [] (now (depths .entry)) []) ⌝ }
 {
-    if states::ended(st) {
-        return Own::Ended;
+    let room = states::has_room_to_judge(st, nets1.len(), nets2.len(), depths.len());
+    match states::top_node(st, room, depths) {
+        Top::Ended => Own::Ended,
+        Top::NoRoom => Own::NoRoom,
+        Top::Node(top, depth) => {
+            let k = top as usize;
+            Own::Is(clearing::judge(
+                nets::net_of(nets1, nets2, 1, k, st.width1 as usize),
+                nets::net_of(nets1, nets2, 2, k, st.width2 as usize),
+                st.gap,
+            ))
+        }
     }
-    if !states::has_room_to_judge(st, nets1.len(), nets2.len(), depths.len()) {
-        return Own::NoRoom;
-    }
-    if !states::is_search(st, states::top_depth(depths, st.waiting)) {
-        return Own::NoRoom;
-    }
-    let k = st.waiting as usize - 1;
-    Own::Is(clearing::judge(
-        nets::net_of(nets1, nets2, 1, k, st.width1 as usize),
-        nets::net_of(nets1, nets2, 2, k, st.width2 as usize),
-        st.gap,
-    ))
 }
 
 // ---- a step
@@ -98,28 +97,24 @@ pub fn step(
 ) -> Stepped
     ensures { λ r. ⌜ _≡_ {A = Stepping} (stepping r (memory (now (nets1 .exit)) (now (nets2 .exit)) (now (ranges .exit)) (now (depths .exit)) (now (raw .exit)))) (stepDef geometry st (memory (now (nets1 .entry)) (now (nets2 .entry)) (now (ranges .entry)) (now (depths .entry)) (now (raw .entry))) v) ⌝ }
 {
-    if states::ended(st) {
-        return Stepped::Ended;
-    }
-    if !states::has_room(
+    let room = states::has_room(
         st,
         nets1.len(),
         nets2.len(),
         ranges.len(),
         depths.len(),
         raw.len(),
-    ) {
-        return Stepped::NoRoom;
+    );
+    match states::top_node(st, room, depths) {
+        Top::Ended => Stepped::Ended,
+        Top::NoRoom => Stepped::NoRoom,
+        Top::Node(top, depth) => {
+            let k = top as usize;
+            let a = boxes::net_box(nets::net_of(nets1, nets2, 1, k, st.width1 as usize));
+            let b = boxes::net_box(nets::net_of(nets1, nets2, 2, k, st.width2 as usize));
+            Stepped::Next(advance(st, v, top, depth, a, b, nets1, nets2, ranges, depths, raw))
+        }
     }
-    let depth = states::top_depth(depths, st.waiting);
-    if !states::is_search(st, depth) {
-        return Stepped::NoRoom;
-    }
-    let k = st.waiting - 1;
-    let at = k as usize;
-    let a = boxes::net_box(nets::net_of(nets1, nets2, 1, at, st.width1 as usize));
-    let b = boxes::net_box(nets::net_of(nets1, nets2, 2, at, st.width2 as usize));
-    Stepped::Next(advance(st, v, k, depth, a, b, nets1, nets2, ranges, depths, raw))
 }
 
 // A step with the search's own verdict: what `own_verdict` and then `step` do, with the nets divided once, into the room p and q.
@@ -136,36 +131,32 @@ fn own_step_in(
     requires { ⌜ (length (now p) ≡ 78) × (length (now q) ≡ 78) ⌝ }
     ensures { λ r. ⌜ _≡_ {A = Stepping} (stepping r (memory (now (nets1 .exit)) (now (nets2 .exit)) (now (ranges .exit)) (now (depths .exit)) (now (raw .exit)))) (ownStepDef geometry st (memory (now (nets1 .entry)) (now (nets2 .entry)) (now (ranges .entry)) (now (depths .entry)) (now (raw .entry)))) ⌝ }
 {
-    if states::ended(st) {
-        return Stepped::Ended;
-    }
-    if !states::has_room(
+    let room = states::has_room(
         st,
         nets1.len(),
         nets2.len(),
         ranges.len(),
         depths.len(),
         raw.len(),
-    ) {
-        return Stepped::NoRoom;
-    }
-    let depth = states::top_depth(depths, st.waiting);
-    if !states::is_search(st, depth) {
-        return Stepped::NoRoom;
-    }
-    let k = st.waiting - 1;
-    let at = k as usize;
-    let j = clearing::judge_in(
-        nets::net_of(nets1, nets2, 1, at, st.width1 as usize),
-        nets::net_of(nets1, nets2, 2, at, st.width2 as usize),
-        st.gap,
-        p,
-        q,
     );
-    let v = j.verdict;
-    let a = j.a;
-    let b = j.b;
-    Stepped::Next(advance(st, v, k, depth, a, b, nets1, nets2, ranges, depths, raw))
+    match states::top_node(st, room, depths) {
+        Top::Ended => Stepped::Ended,
+        Top::NoRoom => Stepped::NoRoom,
+        Top::Node(top, depth) => {
+            let k = top as usize;
+            let j = clearing::judge_in(
+                nets::net_of(nets1, nets2, 1, k, st.width1 as usize),
+                nets::net_of(nets1, nets2, 2, k, st.width2 as usize),
+                st.gap,
+                p,
+                q,
+            );
+            let v = j.verdict;
+            let a = j.a;
+            let b = j.b;
+            Stepped::Next(advance(st, v, top, depth, a, b, nets1, nets2, ranges, depths, raw))
+        }
+    }
 }
 
 // The same in room of its own.

@@ -1,6 +1,6 @@
 -- What the tests of a state and of the lent lengths say, once they have passed. Assumes nothing.
 use mathlib.Core.Path.{_≡_, refl}
-use mathlib.Core.Bool.{Bool, true, false, _&&_, _||_, true≢false, false≢true}
+use mathlib.Core.Bool.{Bool, true, false, _&&_, _||_, cond, true≢false, false≢true}
 use mathlib.Core.List.{List}
 use Prim.Native.Nat.{ℕ, zero, suc, _+_, _-_, _*_, _≤_}
 use native.Mathlib.Nat.{le-trans, mul-le-mul-right}
@@ -8,7 +8,9 @@ use native.Mathlib.Omega.{arith}
 use lib.Dec.{leb, eqb}
 use borrow.Author.Tests.{leb-true, eqb-true}
 use Rattle.states.specs.declared.State.{State}
-use Rattle.states.specs.States.{Sizes, needed, enough, enoughOwn, depthAt, topFits, searchWith, topDepth, isZero, over}
+use Rattle.states.specs.declared.Top.{Top}
+use Rattle.states.specs.declared.Top.the-variants.{Node, Ended, NoRoom}
+use Rattle.states.specs.States.{Sizes, needed, enough, enoughOwn, depthAt, topFits, searchWith, topDepth, isZero, over, topOf}
 
 -- ---- both halves of a test
 pub and-first : (a b : Bool) → a && b ≡ true → a ≡ true
@@ -72,6 +74,7 @@ slots-fit P k n len h r = le-trans (mul-le-mul-right n h) r
 pub record RoomOwn (x : State) (s : Sizes) : Type 0 where
   pub nets1 : (x .pairs + 64) * (4 * x .width1) ≤ s .nets1
   pub nets2 : (x .pairs + 64) * (4 * x .width2) ≤ s .nets2
+  pub depths : (x .pairs + 64) * 1 ≤ s .depths
 
 pub room-own : (x : State) (s : Sizes) → enoughOwn (needed x) s ≡ true → RoomOwn x s
 room-own x s e =
@@ -81,6 +84,7 @@ room-own x s e =
     record {
       nets1 = leb-true _ _ (and-first b1 (b2 && b3) e);
       nets2 = leb-true _ _ (and-first b2 b3 (and-second b1 (b2 && b3) e));
+      depths = leb-true _ _ (and-second b2 b3 (and-second b1 (b2 && b3) e));
     }
 
 pub top-slot : (x : State) (d n len : ℕ) → over x ≡ false → searchWith x d ≡ true → (x .pairs + 64) * n ≤ len → (x .waiting - 1 + 1) * n ≤ len
@@ -97,21 +101,20 @@ pub record RoomAll (x : State) (s : Sizes) : Type 0 where
   pub depths : (x .pairs + 64) * 1 ≤ s .depths
   pub raw : x .pairs * suc (x .quota) * 10 ≤ s .raw
 
+pub enough-own : (need have : Sizes) → enough need have ≡ true → enoughOwn need have ≡ true
+enough-own need have e = and-first (enoughOwn need have) _ e
+
 pub room-all : (x : State) (s : Sizes) → enough (needed x) s ≡ true → RoomAll x s
 room-all x s e =
-    let b1 = leb ((x .pairs + 64) * (4 * x .width1)) (s .nets1) in
-    let b2 = leb ((x .pairs + 64) * (4 * x .width2)) (s .nets2) in
-    let b3 = leb ((x .pairs + 64) * 4) (s .ranges) in
-    let b4 = leb ((x .pairs + 64) * 1) (s .depths) in
+    let b4 = leb ((x .pairs + 64) * 4) (s .ranges) in
     let b5 = leb (x .pairs * suc (x .quota) * 10) (s .raw) in
-    let e2 = and-second b1 (b2 && (b3 && (b4 && b5))) e in
-    let e3 = and-second b2 (b3 && (b4 && b5)) e2 in
-    let e4 = and-second b3 (b4 && b5) e3 in
+    let own = room-own x s (enough-own (needed x) s e) in
+    let e4 = and-second (enoughOwn (needed x) s) (b4 && b5) e in
     record {
-      nets1 = leb-true _ _ (and-first b1 (b2 && (b3 && (b4 && b5))) e);
-      nets2 = leb-true _ _ (and-first b2 (b3 && (b4 && b5)) e2);
-      ranges = leb-true _ _ (and-first b3 (b4 && b5) e3);
-      depths = leb-true _ _ (and-first b4 b5 e4);
+      nets1 = own .nets1;
+      nets2 = own .nets2;
+      ranges = leb-true _ _ (and-first b4 b5 e4);
+      depths = own .depths;
       raw = leb-true _ _ (and-second b4 b5 e4);
     }
 
@@ -121,3 +124,49 @@ top-depth-at (suc n) l h = let e : suc n - 1 ≡ n = omega arith in rw e refl
 
 pub one-more : (n : ℕ) → 1 ≤ n → n ≡ suc (n - 1)
 one-more n h = omega arith
+
+-- ---- what `top_node` answers, and what its answer says
+abbrev topWith : State → ℕ → Bool → Bool → Top
+topWith x d o s = cond o Ended (cond s (Node (x .waiting - 1) d) NoRoom)
+
+module _ (x : State) (room : Bool) (depths : List ℕ) where
+  abbrev d : ℕ
+  d = topDepth (x .waiting) depths
+
+  pub ended-top : over x ≡ true → Ended ≡ topOf x room depths
+  ended-top o = rw o refl
+
+  pub short-top : over x ≡ false → room ≡ false → NoRoom ≡ topOf x room depths
+  short-top o r = rw (o, r) refl
+
+  pub forged-top : over x ≡ false → room ≡ true → searchWith x d ≡ false → NoRoom ≡ topOf x room depths
+  forged-top o r s = rw (o, r, s) refl
+
+  pub node-top : (e : ℕ) → over x ≡ false → room ≡ true → e ≡ d → searchWith x e ≡ true → Node (x .waiting - 1) e ≡ topOf x room depths
+  node-top e o r h s = rw (o, r, ← h, s) refl
+
+  pub top-ended : Ended ≡ topOf x room depths → over x ≡ true
+  top-ended e = go (over x) (room && searchWith x d) e
+    where
+      go : (o s : Bool) → Ended ≡ topWith x d o s → o ≡ true
+      go true s e = refl
+      go false true e = absurd (let z : _≡_ {A = ℕ} 0 1 = cc in omega arith)
+      go false false e = absurd (let z : _≡_ {A = ℕ} 0 1 = cc in omega arith)
+
+  pub top-refused : NoRoom ≡ topOf x room depths → (over x ≡ false) × (room && searchWith x d ≡ false)
+  top-refused e = go (over x) (room && searchWith x d) e
+    where
+      go : (o s : Bool) → NoRoom ≡ topWith x d o s → (o ≡ false) × (s ≡ false)
+      go true s e = absurd (let z : _≡_ {A = ℕ} 0 1 = cc in omega arith)
+      go false true e = absurd (let z : _≡_ {A = ℕ} 0 1 = cc in omega arith)
+      go false false e = (refl, refl)
+
+  pub top-node : (k e : ℕ) → Node k e ≡ topOf x room depths → (over x ≡ false) × (room ≡ true) × (searchWith x d ≡ true) × (k ≡ x .waiting - 1) × (e ≡ d)
+  top-node k e h =
+      let g = go (over x) (room && searchWith x d) h in
+      (g .0, and-first room (searchWith x d) (g .1), and-second room (searchWith x d) (g .1), g .2, g .3)
+    where
+      go : (o s : Bool) → Node k e ≡ topWith x d o s → (o ≡ false) × (s ≡ true) × (k ≡ x .waiting - 1) × (e ≡ d)
+      go true s e = absurd (let z : _≡_ {A = ℕ} 0 1 = cc in omega arith)
+      go false true e = (refl, refl, cc, cc)
+      go false false e = absurd (let z : _≡_ {A = ℕ} 0 1 = cc in omega arith)

@@ -1,7 +1,7 @@
 -- The state, the lent memory, and number 19's tests of both (document 01, the paragraph under the table). Definitions only.
 use mathlib.Core.List.{List}
 use mathlib.Core.Bool.{Bool, true, false, _&&_, _||_, cond}
-use Prim.Native.Nat.{ℕ, zero, suc, _+_, _*_}
+use Prim.Native.Nat.{ℕ, zero, suc, _+_, _-_, _*_}
 use lib.Dec.{leb, eqb}
 use lib.ListN.{length, getD}
 use lib.Ieee.{Float}
@@ -9,6 +9,8 @@ use Rattle.lists.specs.Parts.{block}
 use Rattle.machine.specs.Machine.{limit}
 use Rattle.states.specs.declared.State.{State}
 use Rattle.states.specs.declared.Counts.{Counts}
+use Rattle.states.specs.declared.Top.{Top}
+use Rattle.states.specs.declared.Top.the-variants.{Node, Ended, NoRoom}
 
 -- the lent slices; node k owns slot k of the nets, the ranges and the depths
 pub record Memory : Type 0 where
@@ -20,6 +22,10 @@ pub record Memory : Type 0 where
 
 abbrev pub memory : List Float → List Float → List Float → List ℕ → List Float → Memory
 memory a b r d w = record { nets1 = a; nets2 = b; ranges = r; depths = d; raw = w }
+
+-- the state of a fresh search of P pairs: all wait, and S × P may be spent
+abbrev pub firstState : ℕ → ℕ → ℕ → ℕ → Float → State
+firstState P S w1 w2 gap = record { pairs = P; quota = S; waiting = P; visits = 0; splits = 0; unspent = S * P; settled = 0; given = 0; width1 = w1; width2 = w2; gap = gap; stopped = false }
 
 -- five lengths: of a memory's slices, of what is lent of them, of what is needed
 pub record Sizes : Type 0 where
@@ -42,12 +48,12 @@ needed x = record {
   raw = x .pairs * suc (x .quota) * 10;
 }
 
-abbrev pub enough : Sizes → Sizes → Bool
-enough need have = leb (need .nets1) (have .nets1) && (leb (need .nets2) (have .nets2) && (leb (need .ranges) (have .ranges) && (leb (need .depths) (have .depths) && leb (need .raw) (have .raw))))
-
--- the own verdict is lent the nets and the depths
+-- the own verdict is lent the nets and the depths, a step the ranges and the raw regions too
 abbrev pub enoughOwn : Sizes → Sizes → Bool
 enoughOwn need have = leb (need .nets1) (have .nets1) && (leb (need .nets2) (have .nets2) && leb (need .depths) (have .depths))
+
+abbrev pub enough : Sizes → Sizes → Bool
+enough need have = enoughOwn need have && (leb (need .ranges) (have .ranges) && leb (need .raw) (have .raw))
 
 -- ---- "a state that is no search's": the five tests
 -- the depth in slot k
@@ -85,3 +91,15 @@ over x = x .stopped || isZero (x .waiting)
 -- the result; left is the nodes waiting at the end
 abbrev pub countsOf : State → Counts
 countsOf x = record { pairs = x .pairs; visits = x .visits; splits = x .splits; settled = x .settled; given = x .given; left = cond (over x) (x .waiting) 0; unspent = x .unspent }
+
+-- ---- what a call finds on top
+abbrev pub topNumber : Top → ℕ
+topNumber (Node k depth) = 0
+topNumber Ended = 20
+topNumber NoRoom = 19
+
+-- 20, then 19: for a slice too short, `room` being false, or a state that is no search's
+abbrev pub topOf : State → Bool → List ℕ → Top
+topOf x room depths =
+    let d = topDepth (x .waiting) depths in
+    cond (over x) Ended (cond (room && searchWith x d) (Node (x .waiting - 1) d) NoRoom)

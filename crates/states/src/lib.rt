@@ -1,7 +1,7 @@
 // The state of a search, and number 19's tests of it and of the lent memory.
 ghost use mathlib.Core.Path.{_≡_};
 ghost use Prim.Native.Nat.{_+_, _*_, _≤_};
-ghost use Rattle.states.specs.States.{Sizes, needed, enough, enoughOwn, topDepth, topFits, searchWith, over, countsOf};
+ghost use Rattle.states.specs.States.{needed, enough, enoughOwn, topDepth, topFits, searchWith, over, countsOf, topOf, firstState};
 
 // All that a search is, but for the nodes and regions in the lent memory.
 pub struct State {
@@ -37,6 +37,34 @@ pub struct Counts {
     // nodes waiting at the end; 0 before it
     pub left: u32,
     pub unspent: u32,
+}
+
+// What a call finds on top: a node and its depth, number 20, or number 19.
+pub enum Top {
+    Node(u32, u8),
+    Ended,
+    NoRoom,
+}
+
+// The state of a fresh search of so many pairs.
+pub fn fresh(pairs: usize, splits: u32, w1: usize, w2: usize, gap: f64) -> State
+    requires { ⌜ (pairs ≤ 16641) × (splits ≤ 256) × (w1 ≤ 26) × (w2 ≤ 26) ⌝ }
+    ensures { λ r. ⌜ r ≡ firstState pairs splits w1 w2 gap ⌝ }
+{
+    State {
+        pairs: pairs as u16,
+        quota: splits as u16,
+        waiting: pairs as u32,
+        visits: 0,
+        splits: 0,
+        unspent: splits * pairs as u32,
+        settled: 0,
+        given: 0,
+        width1: w1 as u8,
+        width2: w2 as u8,
+        gap,
+        stopped: false,
+    }
 }
 
 pub fn ended(st: State) -> bool
@@ -78,7 +106,7 @@ pub fn has_room_to_judge(st: State, nets1: usize, nets2: usize, depths: usize) -
     depths >= nodes * 1
 }
 
-// Whether lent slices of these lengths are enough.
+// Whether lent slices of these lengths are enough for a step.
 pub fn has_room(
     st: State,
     nets1: usize,
@@ -89,17 +117,10 @@ pub fn has_room(
 ) -> bool
     ensures { λ r. ⌜ r ≡ enough (needed st) (record { nets1 = nets1; nets2 = nets2; ranges = ranges; depths = depths; raw = raw }) ⌝ }
 {
-    let nodes = st.pairs as usize + 64;
-    if nets1 < nodes * (4 * (st.width1 as usize)) {
+    if !has_room_to_judge(st, nets1, nets2, depths) {
         return false;
     }
-    if nets2 < nodes * (4 * (st.width2 as usize)) {
-        return false;
-    }
-    if ranges < nodes * 4 {
-        return false;
-    }
-    if depths < nodes * 1 {
+    if ranges < (st.pairs as usize + 64) * 4 {
         return false;
     }
     raw >= st.pairs as usize * (st.quota as usize + 1) * 10
@@ -149,4 +170,21 @@ pub fn is_search(st: State, depth: u8) -> bool
         return false;
     }
     st.visits <= splits + settled + given + 1
+}
+
+// What a step or the own verdict finds on top, the slices lent to it being long enough or not: 20, then 19, else the top node.
+pub fn top_node(st: State, room: bool, depths: &[u8]) -> Top
+    ensures { λ r. ⌜ r ≡ topOf st room (now (depths .entry)) ⌝ }
+{
+    if ended(st) {
+        return Top::Ended;
+    }
+    if !room {
+        return Top::NoRoom;
+    }
+    let depth = top_depth(depths, st.waiting);
+    if !is_search(st, depth) {
+        return Top::NoRoom;
+    }
+    Top::Node(st.waiting - 1, depth)
 }

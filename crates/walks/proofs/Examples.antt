@@ -4,7 +4,7 @@ use mathlib.Core.List.{List, [], _∷_, _++_}
 use Prim.Native.Nat.{ℕ, _+_, _*_, _/_, _%_}
 use lib.Ieee.{Float, binary64, ofBits}
 use Rattle.walks.specs.Words.{wordAt, floatAt, wordsFrom, floatsFrom}
-use Rattle.walks.specs.Sheets.{Line, Sheet, Walked, walked, refusedAs, badLength, badCount, sizeOf, partOf, weightsOf, lineOf, walkOf}
+use Rattle.walks.specs.Sheets.{Line, walked, refusedAs, badLength, badCount, sizeOf, partOf, weightsOf, lineOf, walkOf}
 
 -- words as bytes; a word of kind k and count n; the floats 0 and 1 as words
 abbrev bytes : List ℕ → List ℕ

@@ -56,14 +56,17 @@ loop-less c = search needs
 
 loop-again : tie.Need-loop-again Inv-loop μ-loop
 loop-again c =
+    let args = c .before .before .before .before .before .before .args in
     let l = c .before .before .before .before .loop in
-    (search needs, search needs, search needs, rounds.paired-turn (mixOf (c .before .before .before .before .before .before .args .alpha)) 26 (l .s) (l .x) (c .before .before .before .before .before .before .args .at + c .before .before .before .before .before .before .args .n) (c .mix .result) (search needs) (omega arith) (c .mix .ensures) ∙ l .inv .3)
+    (search needs, search needs, search needs, rounds.paired-turn (mixOf (args .alpha)) 26 (l .s) (l .x) (args .at + args .n) (c .mix .result) (search needs) (omega arith) (c .mix .ensures) ∙ l .inv .3)
 
 same-length : tie.Need-same-length Inv-loop μ-loop
 same-length c = search needs
 
 returns : tie.Need-returns Inv-loop μ-loop
-returns c = rounds.paired-done (mixOf (c .before .before .before .args .alpha)) 26 (c .before .loop .s) _ (c .before .loop .x) (c .before .before .before .args .at + c .before .before .before .args .n) (search needs) (c .before .loop .inv .3)
+returns c =
+    let args = c .before .before .before .args in
+    rounds.paired-done (mixOf (args .alpha)) 26 (c .before .loop .s) _ (c .before .loop .x) (args .at + args .n) (search needs) (c .before .loop .inv .3)
 
 pub mix-run-spec : {M : Type 1} → statement M
 mix-run-spec =

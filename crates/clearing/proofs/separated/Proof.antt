@@ -29,13 +29,14 @@ apart-along-requires c κs = search needs
 
 returns : tie.Need-returns
 returns c =
+    let pre = c .before .before .before .before .before .before .before .before .before .before .pre in
     let a = c .before .before .before .before .before .before .before .before .before .before .args in
     let ca = c .before .before .before .before .before .before .before .chord in
     let cb = c .before .before .before .before .before .before .chord2 in
     let n = c .before .before .normal-of in
     first-axis (n .result) (ca .result) (cb .result) (a .gap) (a .p .now) (a .q .now) (sym (c .before .apart-along .ensures) ∙ c .if1 .taken)
     ∙ separated-is (n .result) (ca .result) (cb .result) (a .gap) (a .p .now) (a .q .now) (c .before .before .before .sub .result) (ca .ensures) (cb .ensures)
-    (between-is _ _ _ (a .p .now) (a .q .now) (c .before .before .before .sub .ensures) (c .before .before .before .before .before .point-at .ensures) (c .before .before .before .before .point-at2 .ensures) (c .before .before .before .before .before .before .before .before .before .before .pre .0) (c .before .before .before .before .before .before .before .before .before .before .pre .1)) (n .ensures)
+    (between-is _ _ _ (a .p .now) (a .q .now) (c .before .before .before .sub .ensures) (c .before .before .before .before .before .point-at .ensures) (c .before .before .before .before .point-at2 .ensures) (pre .0) (pre .1)) (n .ensures)
 
 cross-requires : tie.Need-cross-requires
 cross-requires c κs = search needs
@@ -45,6 +46,7 @@ apart-along-requires-2 c κs = search needs
 
 returns-2 : tie.Need-returns-2
 returns-2 c =
+    let pre = c .before .before .before .before .before .before .before .before .before .before .before .before .before .pre in
     let a = c .before .before .before .before .before .before .before .before .before .before .before .before .before .args in
     let ca = c .before .before .before .before .before .before .before .before .before .before .chord in
     let cb = c .before .before .before .before .before .before .before .before .before .chord2 in
@@ -52,7 +54,7 @@ returns-2 c =
     second-axis (n .result) (ca .result) (cb .result) (a .gap) (a .p .now) (a .q .now) (sym (c .before .before .before .before .apart-along .ensures) ∙ c .before .before .before .if1 .left)
     (sym (ap (λ v. apartAlong v (a .gap) (a .p .now) (a .q .now)) (c .before .before .cross .ensures)) ∙ sym (c .before .apart-along2 .ensures) ∙ c .if2 .taken)
     ∙ separated-is (n .result) (ca .result) (cb .result) (a .gap) (a .p .now) (a .q .now) (c .before .before .before .before .before .before .sub .result) (ca .ensures) (cb .ensures)
-    (between-is _ _ _ (a .p .now) (a .q .now) (c .before .before .before .before .before .before .sub .ensures) (c .before .before .before .before .before .before .before .before .point-at .ensures) (c .before .before .before .before .before .before .before .point-at2 .ensures) (c .before .before .before .before .before .before .before .before .before .before .before .before .before .pre .0) (c .before .before .before .before .before .before .before .before .before .before .before .before .before .pre .1)) (n .ensures)
+    (between-is _ _ _ (a .p .now) (a .q .now) (c .before .before .before .before .before .before .sub .ensures) (c .before .before .before .before .before .before .before .before .point-at .ensures) (c .before .before .before .before .before .before .before .point-at2 .ensures) (pre .0) (pre .1)) (n .ensures)
 
 cross-requires-2 : tie.Need-cross-requires-2
 cross-requires-2 c κs = search needs
@@ -62,6 +64,7 @@ apart-along-requires-3 c κs = search needs
 
 returns-3 : tie.Need-returns-3
 returns-3 c =
+    let pre = c .before .before .before .before .before .before .before .before .before .before .before .before .before .before .before .pre in
     let a = c .before .before .before .before .before .before .before .before .before .before .before .before .before .before .before .args in
     let ca = c .before .before .before .before .before .before .before .before .before .before .before .before .chord in
     let cb = c .before .before .before .before .before .before .before .before .before .before .before .chord2 in
@@ -70,7 +73,7 @@ returns-3 c =
     ∙ third-axis (n .result) (ca .result) (cb .result) (a .gap) (a .p .now) (a .q .now) (sym (c .before .before .before .before .before .before .apart-along .ensures) ∙ c .before .before .before .before .before .if1 .left)
     (sym (ap (λ v. apartAlong v (a .gap) (a .p .now) (a .q .now)) (c .before .before .before .before .cross .ensures)) ∙ sym (c .before .before .before .apart-along2 .ensures) ∙ c .before .before .if2 .left)
     ∙ separated-is (n .result) (ca .result) (cb .result) (a .gap) (a .p .now) (a .q .now) (c .before .before .before .before .before .before .before .before .sub .result) (ca .ensures) (cb .ensures)
-    (between-is _ _ _ (a .p .now) (a .q .now) (c .before .before .before .before .before .before .before .before .sub .ensures) (c .before .before .before .before .before .before .before .before .before .before .point-at .ensures) (c .before .before .before .before .before .before .before .before .before .point-at2 .ensures) (c .before .before .before .before .before .before .before .before .before .before .before .before .before .before .before .pre .0) (c .before .before .before .before .before .before .before .before .before .before .before .before .before .before .before .pre .1)) (n .ensures)
+    (between-is _ _ _ (a .p .now) (a .q .now) (c .before .before .before .before .before .before .before .before .sub .ensures) (c .before .before .before .before .before .before .before .before .before .before .point-at .ensures) (c .before .before .before .before .before .before .before .before .before .point-at2 .ensures) (pre .0) (pre .1)) (n .ensures)
 
 pub separated-spec : {M : Type 1} → statement M
 separated-spec =

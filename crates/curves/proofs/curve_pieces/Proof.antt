@@ -17,18 +17,21 @@ slice-aggregate-flat-knots c = search needs
 
 flat-knots-requires : tie.Need-flat-knots-requires
 flat-knots-requires c κs =
-    let k = counts (c .before .before .before .before .before .before .before .args .degree) (c .before .before .before .before .before .before .before .args .knots .now) (c .before .before .before .before .before .before .before .args .mults .now) (c .before .before .before .before .before .before .before .args .coords .now) (c .before .before .before .before .before .before .before .args .weights .now) (c .before .before .before .before .before .before .before .pre .0) in
+    let args = c .before .before .before .before .before .before .before .args in
+    let k = counts (args .degree) (args .knots .now) (args .mults .now) (args .coords .now) (args .weights .now) (c .before .before .before .before .before .before .before .pre .0) in
     (k .as-many, omega (arith, k .count, k .few-poles, k .most, c .before .flat-room .ensures))
 
 array-share-prefix-f : tie.Need-array-share-prefix-f
 array-share-prefix-f c =
-    let k = counts (c .before .before .before .before .before .before .before .before .before .args .degree) (c .before .before .before .before .before .before .before .before .before .args .knots .now) (c .before .before .before .before .before .before .before .before .before .args .mults .now) (c .before .before .before .before .before .before .before .before .before .args .coords .now) (c .before .before .before .before .before .before .before .before .before .args .weights .now) (c .before .before .before .before .before .before .before .before .before .pre .0) in
+    let args = c .before .before .before .before .before .before .before .before .before .args in
+    let k = counts (args .degree) (args .knots .now) (args .mults .now) (args .coords .now) (args .weights .now) (c .before .before .before .before .before .before .before .before .before .pre .0) in
     let m = c .before .flat-knots in
     omega (arith, m .kept .1 .1 .0, c .before .before .before .flat-room .ensures, m .ensures .0, k .count, k .few-poles, k .most)
 
 slice-aggregate-with-poles : tie.Need-slice-aggregate-with-poles
 slice-aggregate-with-poles c =
-    let k = counts (c .before .before .before .before .before .before .before .before .before .before .args .degree) (c .before .before .before .before .before .before .before .before .before .before .args .knots .now) (c .before .before .before .before .before .before .before .before .before .before .args .mults .now) (c .before .before .before .before .before .before .before .before .before .before .args .coords .now) (c .before .before .before .before .before .before .before .before .before .before .args .weights .now) (c .before .before .before .before .before .before .before .before .before .before .pre .0) in
+    let args = c .before .before .before .before .before .before .before .before .before .before .args in
+    let k = counts (args .degree) (args .knots .now) (args .mults .now) (args .coords .now) (args .weights .now) (c .before .before .before .before .before .before .before .before .before .before .pre .0) in
     let m = c .before .before .flat-knots in
     sym (length-take-le (m .result) (m .last .1 .1 .0) (omega (arith, m .kept .1 .1 .0, c .before .before .before .before .flat-room .ensures, m .ensures .0, k .count, k .few-poles, k .most)))
 
@@ -37,11 +40,13 @@ count-requires c κs = search needs
 
 with-poles-requires : tie.Need-with-poles-requires
 with-poles-requires c κs =
-    let k = counts (c .before .before .before .before .before .before .before .before .before .before .before .before .args .degree) (c .before .before .before .before .before .before .before .before .before .before .before .before .args .knots .now) (c .before .before .before .before .before .before .before .before .before .before .before .before .args .mults .now) (c .before .before .before .before .before .before .before .before .before .before .before .before .args .coords .now) (c .before .before .before .before .before .before .before .before .before .before .before .before .args .weights .now) (c .before .before .before .before .before .before .before .before .before .before .before .before .pre .0) in
+    let args = c .before .before .before .before .before .before .before .before .before .before .before .before .args in
+    let pre = c .before .before .before .before .before .before .before .before .before .before .before .before .pre in
+    let k = counts (args .degree) (args .knots .now) (args .mults .now) (args .coords .now) (args .weights .now) (pre .0) in
     let m = c .before .before .before .before .flat-knots in
     let d = c .before .count .ensures in
     let e = length-take-le (m .result) (m .last .1 .1 .0) (omega (arith, m .kept .1 .1 .0, c .before .before .before .before .before .before .flat-room .ensures, m .ensures .0, k .count, k .few-poles, k .most)) in
-    ((omega (arith, k .least), omega (arith, k .most), omega (arith, k .enough), k .few-poles, omega (arith, k .count, m .ensures .0)), (k .two-knots, k .few-knots, laws.fits _ _ d (c .before .before .before .before .before .before .before .before .before .before .before .before .pre .1)))
+    ((omega (arith, k .least), omega (arith, k .most), omega (arith, k .enough), k .few-poles, omega (arith, k .count, m .ensures .0)), (k .two-knots, k .few-knots, laws.fits _ _ d (pre .1)))
 
 same-length : tie.Need-same-length
 same-length c = search needs

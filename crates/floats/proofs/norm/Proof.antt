@@ -2,7 +2,7 @@
 use mathlib.Core.Path.{ap, _∙_}
 use borrow.Author.Needs.{needs}
 use Rattle.roots.specs.Root.{rootOf}
-use Rattle.floats.specs.Vectors.{normOf, dotOf}
+use Rattle.floats.specs.Vectors.{normOf}
 use Rattle.floats.proofs.norm.Statement.{statement}
 use Rattle.floats.proofs.norm.Tie as tie
 

@@ -3,7 +3,7 @@ use mathlib.Core.Path.{ap, _∙_}
 use lib.Ieee.{le}
 use borrow.Author.Needs.{needs}
 use Rattle.roots.specs.Root.{rootOf}
-use Rattle.floats.specs.Vectors.{normOf, dotOf}
+use Rattle.floats.specs.Vectors.{normOf}
 use Rattle.floats.proofs.norm_within.Statement.{statement}
 use Rattle.floats.proofs.norm_within.Tie as tie
 

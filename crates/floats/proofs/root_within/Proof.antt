@@ -1,6 +1,6 @@
 -- `root_within`: the squares tell by the laws of Bounds, else the root is compared. Assumes nothing.
-use mathlib.Core.Path.{_∙_, ap}
-use lib.Ieee.{binary64, le}
+use mathlib.Core.Path.{ap}
+use lib.Ieee.{le}
 use borrow.Author.Needs.{needs}
 use Rattle.floats.proofs.Bounds.{inside-is, outside-is}
 use Rattle.floats.proofs.root_within.Statement.{statement}

@@ -35,13 +35,17 @@ loop-less : tie.Need-loop-less Inv-loop μ-loop
 loop-less c = search needs
 
 loop-again : tie.Need-loop-again Inv-loop μ-loop
-loop-again c = (search needs, search needs, search needs, laws.repeat-turn (c .before .before .args .k) (c .before .loop .out) (c .before .loop .x) (c .before .before .args .at + c .before .before .args .n) (search needs) (omega arith) ∙ c .before .loop .inv .3)
+loop-again c =
+    let args = c .before .before .args in
+    (search needs, search needs, search needs, laws.repeat-turn (args .k) (c .before .loop .out) (c .before .loop .x) (args .at + args .n) (search needs) (omega arith) ∙ c .before .loop .inv .3)
 
 same-length : tie.Need-same-length Inv-loop μ-loop
 same-length c = search needs
 
 returns : tie.Need-returns Inv-loop μ-loop
-returns c = laws.repeat-done (c .before .before .args .k) (c .before .loop .out) _ (c .before .loop .x) (c .before .before .args .at + c .before .before .args .n) (search needs) (search needs) (c .before .loop .inv .3)
+returns c =
+    let args = c .before .before .args in
+    laws.repeat-done (args .k) (c .before .loop .out) _ (c .before .loop .x) (args .at + args .n) (search needs) (search needs) (c .before .loop .inv .3)
 
 pub repeat-spec : {M : Type 1} → statement M
 repeat-spec =

@@ -13,7 +13,9 @@ is-state-requires : tie.Need-is-state-requires
 is-state-requires c κs = search needs
 
 returns : tie.Need-returns
-returns c = own-none (c .before .before .before .before .before .before .args .state .now) (c .before .before .before .before .before .before .args .gap) (memory (c .before .before .before .before .before .before .args .nets1 .now) (c .before .before .before .before .before .before .args .nets2 .now) [] (c .before .before .before .before .before .before .args .depths .now) []) (sym (c .before .is-state .ensures) ∙ not-true _ (c .if1 .taken))
+returns c =
+    let args = c .before .before .before .before .before .before .args in
+    own-none (args .state .now) (args .gap) (memory (args .nets1 .now) (args .nets2 .now) [] (args .depths .now) []) (sym (c .before .is-state .ensures) ∙ not-true _ (c .if1 .taken))
 
 read-state-requires : tie.Need-read-state-requires
 read-state-requires c κs = within (c .before .before .before .before .before .before .args .state .now) (sym (c .before .is-state .ensures) ∙ not-false _ (c .if1 .left))
@@ -25,7 +27,9 @@ own-number-requires : tie.Need-own-number-requires
 own-number-requires c κs = search needs
 
 returns-2 : tie.Need-returns-2
-returns-2 c = own-is (c .before .before .before .before .before .before .before .before .before .args .state .now) (c .before .before .before .before .before .before .before .before .before .args .gap) (memory (c .before .before .before .before .before .before .before .before .before .args .nets1 .now) (c .before .before .before .before .before .before .before .before .before .args .nets2 .now) [] (c .before .before .before .before .before .before .before .before .before .args .depths .now) []) (sym (c .before .before .before .before .is-state .ensures) ∙ not-false _ (c .before .before .before .if1 .left)) (c .before .before .read-state .ensures) (c .before .own-verdict .ensures) (c .own-number .ensures)
+returns-2 c =
+    let args = c .before .before .before .before .before .before .before .before .before .args in
+    own-is (args .state .now) (args .gap) (memory (args .nets1 .now) (args .nets2 .now) [] (args .depths .now) []) (sym (c .before .before .before .before .is-state .ensures) ∙ not-false _ (c .before .before .before .if1 .left)) (c .before .before .read-state .ensures) (c .before .own-verdict .ensures) (c .own-number .ensures)
 
 pub lovgurshem-own-verdict-spec : {M : Type 1} → statement M
 lovgurshem-own-verdict-spec =

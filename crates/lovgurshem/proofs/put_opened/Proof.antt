@@ -43,10 +43,14 @@ returns : tie.Need-returns
 returns c = (opened-put (c .before .before .before .before .before .before .before .before .args .w .now) _ (c .before .before .before .before .before .o .given .1) refl (c .before .before .put-state .ensures .0), opened-state _ _ (c .before .before .before .before .before .o .given .1) (c .before .before .put-state .ensures .1))
 
 returns-2 : tie.Need-returns-2
-returns-2 c = (opened-put (c .before .before .before .before .before .before .args .w .now) _ (c .before .before .before .o2 .given .1) (c .numbered .ensures ∙ (λ i. c .before .admission-number .ensures i + 256 * c .before .before .before .o2 .given .0 .0)) refl, opened-state (c .before .before .before .before .before .before .args .w .now) _ (c .before .before .before .o2 .given .1) tt)
+returns-2 c =
+    let args = c .before .before .before .before .before .before .args in
+    (opened-put (args .w .now) _ (c .before .before .before .o2 .given .1) (c .numbered .ensures ∙ (λ i. c .before .admission-number .ensures i + 256 * c .before .before .before .o2 .given .0 .0)) refl, opened-state (args .w .now) _ (c .before .before .before .o2 .given .1) tt)
 
 returns-3 : tie.Need-returns-3
-returns-3 c = (opened-put (c .before .before .before .before .before .before .before .args .w .now) _ (c .before .before .before .before .o3 .given .1) (c .numbered2 .ensures ∙ (λ i. c .before .before .asked-number .ensures i + 256 * c .before .asked-line .ensures i)) refl, opened-state (c .before .before .before .before .before .before .before .args .w .now) _ (c .before .before .before .before .o3 .given .1) tt)
+returns-3 c =
+    let args = c .before .before .before .before .before .before .before .args in
+    (opened-put (args .w .now) _ (c .before .before .before .before .o3 .given .1) (c .numbered2 .ensures ∙ (λ i. c .before .before .asked-number .ensures i + 256 * c .before .asked-line .ensures i)) refl, opened-state (args .w .now) _ (c .before .before .before .before .o3 .given .1) tt)
 
 returns-4 : tie.Need-returns-4
 returns-4 c = (opened-put (c .before .before .before .args .w .now) _ (c .enum-told .given .1) refl refl, opened-state (c .before .before .before .args .w .now) _ (c .enum-told .given .1) tt)

@@ -1,6 +1,6 @@
 -- `halve_slot` is splitSlot: r rounds are done in slots k and k + 1. Assumes nothing.
 use mathlib.Core.Path.{_≡_, refl}
-use Prim.Native.Nat.{_+_, _*_, _-_, _≤_}
+use Prim.Native.Nat.{_*_, _-_, _≤_}
 use native.Mathlib.Omega.{arith}
 use lib.ListN.{length}
 use Rattle.nets.proofs.Laws.{Halving, halving-start, halving-turn, halving-done}

@@ -1,6 +1,5 @@
 -- `deepen` stores the new depth in both slots. Assumes nothing.
 use borrow.Author.Needs.{needs}
-use native.Mathlib.Omega.{arith}
 use lib.ListN.{length-set}
 use Rattle.nodes.proofs.Laws.{depths-are}
 use Rattle.nodes.proofs.deepen.Statement.{statement}

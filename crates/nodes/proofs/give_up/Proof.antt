@@ -24,7 +24,9 @@ same-length : tie.Need-same-length
 same-length c = search needs
 
 returns : tie.Need-returns
-returns c = (c .given-up .ensures, c .before .before .before .store .ensures ∙ ap (λ (r : Region). patch (c .before .before .before .before .before .before .before .before .before .args .raw .now) (c .before .before .before .before .before .before .before .before .before .args .st .given * 10) (flat r)) (c .before .before .before .before .region-of .ensures))
+returns c =
+    let args = c .before .before .before .before .before .before .before .before .before .args in
+    (c .given-up .ensures, c .before .before .before .store .ensures ∙ ap (λ (r : Region). patch (args .raw .now) (args .st .given * 10) (flat r)) (c .before .before .before .before .region-of .ensures))
 
 pub give-up-spec : {M : Type 1} → statement M
 give-up-spec =

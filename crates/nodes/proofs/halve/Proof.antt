@@ -2,7 +2,6 @@
 use borrow.Author.Needs.{needs}
 use mathlib.Core.Path.{ap, _∙_}
 use mathlib.Core.Bool.{Bool, not}
-use native.Mathlib.Omega.{arith}
 use Rattle.nodes.specs.Writes.{slotsAfter, rangesAfter}
 use Rattle.nodes.proofs.halve.Statement.{statement}
 use Rattle.nodes.proofs.halve.Tie as tie
@@ -29,7 +28,9 @@ deepen-requires : tie.Need-deepen-requires
 deepen-requires c κs = search needs
 
 halved-requires : tie.Need-halved-requires
-halved-requires c κs = (c .before .before .before .before .before .before .before .before .before .before .before .before .before .before .before .before .before .before .before .before .before .before .before .pre .1 .1, c .before .before .before .before .before .before .before .before .before .before .before .before .before .before .before .before .before .before .before .before .before .before .before .pre .1 .2, c .before .before .before .before .before .before .before .before .before .before .before .before .before .before .before .before .before .before .before .before .before .before .before .pre .1 .3, c .before .before .before .before .before .before .before .before .before .before .before .before .before .before .before .before .before .before .before .before .before .before .before .pre .0 .few)
+halved-requires c κs =
+    let pre = c .before .before .before .before .before .before .before .before .before .before .before .before .before .before .before .before .before .before .before .before .before .before .before .pre in
+    (pre .1 .1, pre .1 .2, pre .1 .3, pre .0 .few)
 
 same-length : tie.Need-same-length
 same-length c = search needs
@@ -45,11 +46,12 @@ same-length-4 c = search needs
 
 returns : tie.Need-returns
 returns c =
+    let args = c .before .before .before .before .before .before .before .before .before .before .before .before .before .before .before .before .before .before .before .before .before .before .before .before .args in
     let s = c .before .before .before .before .before .before .before .before .before .before .before .before .before .before .before .before .before .before .before .second-halved .ensures in (
       c .halved .ensures,
-      c .before .before .before .before .before .before .before .before .before .before .before .before .before .before .before .before .split-net .ensures ∙ ap (λ (b : Bool). slotsAfter (not b) (c .before .before .before .before .before .before .before .before .before .before .before .before .before .before .before .before .before .before .before .before .before .before .before .before .args .st .width1) (c .before .before .before .before .before .before .before .before .before .before .before .before .before .before .before .before .before .before .before .before .before .before .before .before .args .k) (c .before .before .before .before .before .before .before .before .before .before .before .before .before .before .before .before .before .before .before .before .before .before .before .before .args .nets1 .now)) s,
-      c .before .before .before .before .before .before .before .before .before .before .before .split-net2 .ensures ∙ ap (λ (b : Bool). slotsAfter b (c .before .before .before .before .before .before .before .before .before .before .before .before .before .before .before .before .before .before .before .before .before .before .before .before .args .st .width2) (c .before .before .before .before .before .before .before .before .before .before .before .before .before .before .before .before .before .before .before .before .before .before .before .before .args .k) (c .before .before .before .before .before .before .before .before .before .before .before .before .before .before .before .before .before .before .before .before .before .before .before .before .args .nets2 .now)) s,
-      c .before .before .before .before .before .before .before .split-ranges .ensures ∙ ap (λ (b : Bool). rangesAfter b (c .before .before .before .before .before .before .before .before .before .before .before .before .before .before .before .before .before .before .before .before .before .before .before .before .args .k) (c .before .before .before .before .before .before .before .before .before .before .before .before .before .before .before .before .before .before .before .before .before .before .before .before .args .ranges .now)) s,
+      c .before .before .before .before .before .before .before .before .before .before .before .before .before .before .before .before .split-net .ensures ∙ ap (λ (b : Bool). slotsAfter (not b) (args .st .width1) (args .k) (args .nets1 .now)) s,
+      c .before .before .before .before .before .before .before .before .before .before .before .split-net2 .ensures ∙ ap (λ (b : Bool). slotsAfter b (args .st .width2) (args .k) (args .nets2 .now)) s,
+      c .before .before .before .before .before .before .before .split-ranges .ensures ∙ ap (λ (b : Bool). rangesAfter b (args .k) (args .ranges .now)) s,
       c .before .before .before .deepen .ensures,
     )
 

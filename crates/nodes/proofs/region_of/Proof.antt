@@ -60,7 +60,9 @@ max-requires-3 : tie.Need-max-requires-3
 max-requires-3 c κs = search needs
 
 returns : tie.Need-returns
-returns c = region-is (c .before .before .before .before .before .before .before .before .before .before .before .args .ranges .now) (c .before .before .before .before .before .before .before .before .before .before .before .args .k) (bothBoxes (c .before .before .before .before .before .before .before .before .before .before .before .args .a) (c .before .before .before .before .before .before .before .before .before .before .before .args .b)) _ _ _ _ _ _ (c .before .before .before .before .before .min .ensures) (c .before .before .before .before .min2 .ensures) (c .before .before .before .min3 .ensures) (c .before .before .max .ensures) (c .before .max2 .ensures) (c .max3 .ensures)
+returns c =
+    let args = c .before .before .before .before .before .before .before .before .before .before .before .args in
+    region-is (args .ranges .now) (args .k) (bothBoxes (args .a) (args .b)) _ _ _ _ _ _ (c .before .before .before .before .before .min .ensures) (c .before .before .before .before .min2 .ensures) (c .before .before .before .min3 .ensures) (c .before .before .max .ensures) (c .before .max2 .ensures) (c .max3 .ensures)
 
 pub region-of-spec : {M : Type 1} → statement M
 region-of-spec =

@@ -56,7 +56,9 @@ same-length : tie.Need-same-length
 same-length c = search needs
 
 returns : tie.Need-returns
-returns c = rw (c .before .before .before .before .before .before .before .before .before .if1 .taken) (ranges-second (c .before .before .before .before .before .before .before .before .before .before .before .before .before .before .before .args .ranges .now) _ _ (c .before .before .before .before .before .before .before .before .before .before .before .before .before .before .before .args .k) _ (search needs) (c .before .before .before .before .before .before .before .before .mean .ensures) (c .before .before .before .before .before .before .put4 .ensures) (c .before .before .put42 .ensures))
+returns c =
+    let args = c .before .before .before .before .before .before .before .before .before .before .before .before .before .before .before .args in
+    rw (c .before .before .before .before .before .before .before .before .before .if1 .taken) (ranges-second (args .ranges .now) _ _ (args .k) _ (search needs) (c .before .before .before .before .before .before .before .before .mean .ensures) (c .before .before .before .before .before .before .put4 .ensures) (c .before .before .put42 .ensures))
 
 mean-requires-2 : tie.Need-mean-requires-2
 mean-requires-2 c κs = search needs
@@ -74,7 +76,9 @@ same-length-2 : tie.Need-same-length-2
 same-length-2 c = search needs
 
 returns-2 : tie.Need-returns-2
-returns-2 c = rw (c .before .before .before .before .before .before .before .before .before .if1 .left) (ranges-first (c .before .before .before .before .before .before .before .before .before .before .before .before .before .before .before .args .ranges .now) _ _ (c .before .before .before .before .before .before .before .before .before .before .before .before .before .before .before .args .k) _ (search needs) (c .before .before .before .before .before .before .before .before .mean2 .ensures) (c .before .before .before .before .before .before .put43 .ensures) (c .before .before .put44 .ensures))
+returns-2 c =
+    let args = c .before .before .before .before .before .before .before .before .before .before .before .before .before .before .before .args in
+    rw (c .before .before .before .before .before .before .before .before .before .if1 .left) (ranges-first (args .ranges .now) _ _ (args .k) _ (search needs) (c .before .before .before .before .before .before .before .before .mean2 .ensures) (c .before .before .before .before .before .before .put43 .ensures) (c .before .before .put44 .ensures))
 
 pub split-ranges-spec : {M : Type 1} → statement M
 split-ranges-spec =

@@ -1,9 +1,8 @@
 -- `open_pairs` works out the breaks, and `push` does the rest. Assumes nothing.
 use borrow.Author.Needs.{needs}
-use mathlib.Core.Path.{_≡_, ap, _∙_}
-use Prim.Native.Nat.{ℕ, _+_, _-_, _≤_}
+use mathlib.Core.Path.{ap, _∙_}
+use Prim.Native.Nat.{ℕ, _+_, _-_}
 use native.Mathlib.Omega.{arith}
-use lib.ListN.{length}
 use Rattle.knots.specs.Knots.{breaksOf}
 use Rattle.pairs.specs.Pairs.{pieces}
 use Rattle.states.specs.States.{memory}
@@ -62,14 +61,16 @@ slice-aggregate-push-2 c = used-length (c .before .before .before .before .befor
 
 push-requires : tie.Need-push-requires
 push-requires c κs =
+    let args = c .before .before .before .before .before .before .before .before .before .before .before .before .before .before .before .before .before .before .before .before .before .before .before .before .before .args in
+    let pre = c .before .before .before .before .before .before .before .before .before .before .before .before .before .before .before .before .before .before .before .before .before .before .before .before .before .pre in
     let k1 = c .before .before .before .before .before .before .before .before .before .before .before .before .breaks .ensures .4 in
     let k2 = c .before .before .before .before .before .before .before .before .before .breaks2 .ensures .4 in
-    let l1 = c .before .before .before .before .before .before .before .before .before .before .before .before .before .before .before .before .before .before .before .before .before .before .before .before .before .pre .0 .0 in
-    let l2 = c .before .before .before .before .before .before .before .before .before .before .before .before .before .before .before .before .before .before .before .before .before .before .before .before .before .pre .0 .1 in (
-      (omega arith, omega arith, omega (arith, c .before .before .before .before .before .before .before .count .ensures, c .before .before .before .before .before .before .before .before .before .before .before .before .before .before .before .before .before .before .before .before .before .before .before .before .before .pre .0 .2), omega (arith, c .before .before .before .before .before .before .count2 .ensures, c .before .before .before .before .before .before .before .before .before .before .before .before .before .before .before .before .before .before .before .before .before .before .before .before .before .pre .0 .3), c .before .before .before .before .before .before .before .before .before .before .before .before .before .before .before .before .before .before .before .before .before .before .before .before .before .pre .0 .4),
+    let l1 = pre .0 .0 in
+    let l2 = pre .0 .1 in (
+      (omega arith, omega arith, omega (arith, c .before .before .before .before .before .before .before .count .ensures, pre .0 .2), omega (arith, c .before .before .before .before .before .before .count2 .ensures, pre .0 .3), pre .0 .4),
       (
-        has-pieces (c .before .before .before .before .before .before .before .before .before .before .before .before .breaks .result) _ (c .before .before .before .before .before .before .before .before .before .before .before .before .before .before .before .before .before .before .before .before .before .before .before .before .before .args .degree1) (c .before .before .before .before .before .before .before .before .before .before .before .before .before .before .before .before .before .before .before .before .before .before .before .before .before .args .pieces1 .now) (c .before .before .before .before .before .before .before .before .before .before .before .before .breaks .last .1 .1 .1 .0) (breaksOf (c .before .before .before .before .before .before .before .before .before .before .before .before .before .before .before .before .before .before .before .before .before .before .before .before .before .args .q .lo1) (c .before .before .before .before .before .before .before .before .before .before .before .before .before .before .before .before .before .before .before .before .before .before .before .before .before .args .q .hi1) (c .before .before .before .before .before .before .before .before .before .before .before .before .before .before .before .before .before .before .before .before .before .before .before .before .before .args .knots1 .now)) (c .before .before .before .before .before .before .before .before .before .before .before .before .breaks .ensures .0) (c .before .before .before .before .before .before .before .before .before .before .before .before .breaks .ensures .2) (c .before .before .before .before .before .before .before .before .before .before .before .before .breaks .ensures .3) (ap (λ (n : ℕ). n + 1) (c .before .before .before .before .before .before .before .count .ensures)) (c .before .before .before .before .before .before .before .before .before .before .before .before .before .before .before .before .before .before .before .before .before .before .before .before .before .pre .1 .0),
-        has-pieces (c .before .before .before .before .before .before .before .before .before .breaks2 .result) _ (c .before .before .before .before .before .before .before .before .before .before .before .before .before .before .before .before .before .before .before .before .before .before .before .before .before .args .degree2) (c .before .before .before .before .before .before .before .before .before .before .before .before .before .before .before .before .before .before .before .before .before .before .before .before .before .args .pieces2 .now) (c .before .before .before .before .before .before .before .before .before .breaks2 .last .1 .1 .1 .0) (breaksOf (c .before .before .before .before .before .before .before .before .before .before .before .before .before .before .before .before .before .before .before .before .before .before .before .before .before .args .q .lo2) (c .before .before .before .before .before .before .before .before .before .before .before .before .before .before .before .before .before .before .before .before .before .before .before .before .before .args .q .hi2) (c .before .before .before .before .before .before .before .before .before .before .before .before .before .before .before .before .before .before .before .before .before .before .before .before .before .args .knots2 .now)) (c .before .before .before .before .before .before .before .before .before .breaks2 .ensures .0) (c .before .before .before .before .before .before .before .before .before .breaks2 .ensures .2) (c .before .before .before .before .before .before .before .before .before .breaks2 .ensures .3) (ap (λ (n : ℕ). n + 1) (c .before .before .before .before .before .before .count2 .ensures)) (c .before .before .before .before .before .before .before .before .before .before .before .before .before .before .before .before .before .before .before .before .before .before .before .before .before .pre .1 .1),
+        has-pieces (c .before .before .before .before .before .before .before .before .before .before .before .before .breaks .result) _ (args .degree1) (args .pieces1 .now) (c .before .before .before .before .before .before .before .before .before .before .before .before .breaks .last .1 .1 .1 .0) (breaksOf (args .q .lo1) (args .q .hi1) (args .knots1 .now)) (c .before .before .before .before .before .before .before .before .before .before .before .before .breaks .ensures .0) (c .before .before .before .before .before .before .before .before .before .before .before .before .breaks .ensures .2) (c .before .before .before .before .before .before .before .before .before .before .before .before .breaks .ensures .3) (ap (λ (n : ℕ). n + 1) (c .before .before .before .before .before .before .before .count .ensures)) (pre .1 .0),
+        has-pieces (c .before .before .before .before .before .before .before .before .before .breaks2 .result) _ (args .degree2) (args .pieces2 .now) (c .before .before .before .before .before .before .before .before .before .breaks2 .last .1 .1 .1 .0) (breaksOf (args .q .lo2) (args .q .hi2) (args .knots2 .now)) (c .before .before .before .before .before .before .before .before .before .breaks2 .ensures .0) (c .before .before .before .before .before .before .before .before .before .breaks2 .ensures .2) (c .before .before .before .before .before .before .before .before .before .breaks2 .ensures .3) (ap (λ (n : ℕ). n + 1) (c .before .before .before .before .before .before .count2 .ensures)) (pre .1 .1),
       ),
     )
 
@@ -86,7 +87,9 @@ same-length-4 : tie.Need-same-length-4
 same-length-4 c = search needs
 
 returns : tie.Need-returns
-returns c = c .before .before .before .before .before .before .before .before .push .ensures ∙ (λ i. pushPairs (c .before .before .before .before .before .before .before .before .before .before .before .before .before .before .before .before .before .before .before .before .before .before .before .before .before .before .before .before .before .before .before .before .before .before .args .q .splits) (c .before .before .before .before .before .before .before .before .before .before .before .before .before .before .before .before .before .before .before .before .before .before .before .before .before .before .before .before .before .before .before .before .before .before .args .q .gap) (pieces (c .before .before .before .before .before .before .before .before .before .before .before .before .before .before .before .before .count .ensures i + 1) (c .before .before .before .before .before .before .before .before .before .before .before .before .before .before .before .before .before .before .before .before .before .before .before .before .before .before .before .before .before .before .before .before .before .before .args .pieces1 .now) (c .before .before .before .before .before .before .before .before .before .before .before .before .before .before .before .before .before .before .before .before .before .breaks .ensures .2 i)) (pieces (c .before .before .before .before .before .before .before .before .before .before .before .before .before .before .before .count2 .ensures i + 1) (c .before .before .before .before .before .before .before .before .before .before .before .before .before .before .before .before .before .before .before .before .before .before .before .before .before .before .before .before .before .before .before .before .before .before .args .pieces2 .now) (c .before .before .before .before .before .before .before .before .before .before .before .before .before .before .before .before .before .before .breaks2 .ensures .2 i)) (c .before .before .before .before .before .before .before .before .before .before .before .before .before .before .before .before .before .before .before .before .before .breaks .ensures .0 i - 1) (c .before .before .before .before .before .before .before .before .before .before .before .before .before .before .before .before .before .before .breaks2 .ensures .0 i - 1) (memory (c .before .before .before .before .before .before .before .before .before .before .before .before .before .before .before .before .before .before .before .before .before .before .before .before .before .before .before .before .before .before .before .before .before .before .args .nets1 .now) (c .before .before .before .before .before .before .before .before .before .before .before .before .before .before .before .before .before .before .before .before .before .before .before .before .before .before .before .before .before .before .before .before .before .before .args .nets2 .now) (c .before .before .before .before .before .before .before .before .before .before .before .before .before .before .before .before .before .before .before .before .before .before .before .before .before .before .before .before .before .before .before .before .before .before .args .ranges .now) (c .before .before .before .before .before .before .before .before .before .before .before .before .before .before .before .before .before .before .before .before .before .before .before .before .before .before .before .before .before .before .before .before .before .before .args .depths .now) (c .before .before .before .before .before .before .before .before .before .before .before .before .before .before .before .before .before .before .before .before .before .before .before .before .before .before .before .before .before .before .before .before .before .before .args .raw .now)))
+returns c =
+    let args = c .before .before .before .before .before .before .before .before .before .before .before .before .before .before .before .before .before .before .before .before .before .before .before .before .before .before .before .before .before .before .before .before .before .before .args in
+    c .before .before .before .before .before .before .before .before .push .ensures ∙ (λ i. pushPairs (args .q .splits) (args .q .gap) (pieces (c .before .before .before .before .before .before .before .before .before .before .before .before .before .before .before .before .count .ensures i + 1) (args .pieces1 .now) (c .before .before .before .before .before .before .before .before .before .before .before .before .before .before .before .before .before .before .before .before .before .breaks .ensures .2 i)) (pieces (c .before .before .before .before .before .before .before .before .before .before .before .before .before .before .before .count2 .ensures i + 1) (args .pieces2 .now) (c .before .before .before .before .before .before .before .before .before .before .before .before .before .before .before .before .before .before .breaks2 .ensures .2 i)) (c .before .before .before .before .before .before .before .before .before .before .before .before .before .before .before .before .before .before .before .before .before .breaks .ensures .0 i - 1) (c .before .before .before .before .before .before .before .before .before .before .before .before .before .before .before .before .before .before .breaks2 .ensures .0 i - 1) (memory (args .nets1 .now) (args .nets2 .now) (args .ranges .now) (args .depths .now) (args .raw .now)))
 
 pub open-pairs-spec : {M : Type 1} → statement M
 open-pairs-spec =

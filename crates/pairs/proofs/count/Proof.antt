@@ -23,7 +23,10 @@ same-length-2 : tie.Need-same-length-2
 same-length-2 c = search needs
 
 returns : tie.Need-returns
-returns c = ((λ t1 t2. c .count-pairs .ensures .0 ∙ counts-pairs (c .before .before .before .before .before .before .before .before .before .before .before .before .before .before .before .args .gap) (pieces (c .before .before .before .before .before .before .before .before .before .before .before .before .before .before .before .args .w1) (c .before .before .before .before .before .before .before .before .before .before .before .before .before .before .before .args .pieces1 .now) t1) (pieces (c .before .before .before .before .before .before .before .before .before .before .before .before .before .before .before .args .w2) (c .before .before .before .before .before .before .before .before .before .before .before .before .before .before .before .args .pieces2 .now) t2) _ _ (c .before .before .before .before .before .before .before .before .before .before .before .before .before .before .before .args .n1) (c .before .before .before .before .before .before .before .before .before .before .before .before .before .before .before .args .n2) (held (c .before .before .before .before .before .before .before .before .before .before .before .before .before .before .before .args .w1) (c .before .before .before .before .before .before .before .before .before .before .before .before .before .before .before .args .pieces1 .now) (c .before .before .before .before .before .before .before .before .before .before .before .before .before .before .before .args .boxes1 .now) _ (c .before .before .before .before .before .before .before .before .before .before .before .before .before .before .before .args .n1) (c .before .before .before .before .before .before .before .before .before .before .before .before .before .before .before .pre .4) (c .before .before .before .before .before .before .before .before .before .piece-boxes .ensures)) (held (c .before .before .before .before .before .before .before .before .before .before .before .before .before .before .before .args .w2) (c .before .before .before .before .before .before .before .before .before .before .before .before .before .before .before .args .pieces2 .now) (c .before .before .before .before .before .before .before .before .before .before .before .before .before .before .before .args .boxes2 .now) _ (c .before .before .before .before .before .before .before .before .before .before .before .before .before .before .before .args .n2) (c .before .before .before .before .before .before .before .before .before .before .before .before .before .before .before .pre .5) (c .before .before .before .before .before .piece-boxes2 .ensures)), c .count-pairs .ensures .1), ((c .before .before .before .before .before .before .before .before .before .piece-boxes .ensures, c .before .before .before .before .before .piece-boxes2 .ensures), ((held (c .before .before .before .before .before .before .before .before .before .before .before .before .before .before .before .args .w1) (c .before .before .before .before .before .before .before .before .before .before .before .before .before .before .before .args .pieces1 .now) (c .before .before .before .before .before .before .before .before .before .before .before .before .before .before .before .args .boxes1 .now) _ (c .before .before .before .before .before .before .before .before .before .before .before .before .before .before .before .args .n1) (c .before .before .before .before .before .before .before .before .before .before .before .before .before .before .before .pre .4) (c .before .before .before .before .before .before .before .before .before .piece-boxes .ensures)), (held (c .before .before .before .before .before .before .before .before .before .before .before .before .before .before .before .args .w2) (c .before .before .before .before .before .before .before .before .before .before .before .before .before .before .before .args .pieces2 .now) (c .before .before .before .before .before .before .before .before .before .before .before .before .before .before .before .args .boxes2 .now) _ (c .before .before .before .before .before .before .before .before .before .before .before .before .before .before .before .args .n2) (c .before .before .before .before .before .before .before .before .before .before .before .before .before .before .before .pre .5) (c .before .before .before .before .before .piece-boxes2 .ensures)))))
+returns c =
+    let args = c .before .before .before .before .before .before .before .before .before .before .before .before .before .before .before .args in
+    let pre = c .before .before .before .before .before .before .before .before .before .before .before .before .before .before .before .pre in
+    ((λ t1 t2. c .count-pairs .ensures .0 ∙ counts-pairs (args .gap) (pieces (args .w1) (args .pieces1 .now) t1) (pieces (args .w2) (args .pieces2 .now) t2) _ _ (args .n1) (args .n2) (held (args .w1) (args .pieces1 .now) (args .boxes1 .now) _ (args .n1) (pre .4) (c .before .before .before .before .before .before .before .before .before .piece-boxes .ensures)) (held (args .w2) (args .pieces2 .now) (args .boxes2 .now) _ (args .n2) (pre .5) (c .before .before .before .before .before .piece-boxes2 .ensures)), c .count-pairs .ensures .1), ((c .before .before .before .before .before .before .before .before .before .piece-boxes .ensures, c .before .before .before .before .before .piece-boxes2 .ensures), ((held (args .w1) (args .pieces1 .now) (args .boxes1 .now) _ (args .n1) (pre .4) (c .before .before .before .before .before .before .before .before .before .piece-boxes .ensures)), (held (args .w2) (args .pieces2 .now) (args .boxes2 .now) _ (args .n2) (pre .5) (c .before .before .before .before .before .piece-boxes2 .ensures)))))
 
 pub count-spec : {M : Type 1} → statement M
 count-spec =

@@ -32,10 +32,15 @@ loop-less : tie.Need-loop-less Inv-loop μ-loop
 loop-less c = search needs
 
 loop-again : tie.Need-loop-again Inv-loop μ-loop
-loop-again c = (row-turn (c .before .before .before .before .before .args .gap) (c .before .before .before .before .before .args .a) (c .before .before .before .before .before .args .boxes .now) (c .before .before .before .before .before .args .n) (c .before .before .before .loop .i) (c .before .before .before .loop .count) _ _ (c .before .before .loop-test .taken) (c .before .box-at .ensures) (c .near .ensures .0) (c .before .before .before .loop .inv .0), search needs, search needs)
+loop-again c =
+    let args = c .before .before .before .before .before .args in
+    let loop = c .before .before .before .loop in
+    (row-turn (args .gap) (args .a) (args .boxes .now) (args .n) (loop .i) (loop .count) _ _ (c .before .before .loop-test .taken) (c .before .box-at .ensures) (c .near .ensures .0) (loop .inv .0), search needs, search needs)
 
 returns : tie.Need-returns Inv-loop μ-loop
-returns c = (row-end (c .before .before .before .args .gap) (c .before .before .before .args .a) (c .before .before .before .args .boxes .now) (c .before .before .before .args .n) (c .before .loop .i) (c .before .loop .count) (c .loop-test .left) (c .before .loop .inv .0), search needs)
+returns c =
+    let args = c .before .before .before .args in
+    (row-end (args .gap) (args .a) (args .boxes .now) (args .n) (c .before .loop .i) (c .before .loop .count) (c .loop-test .left) (c .before .loop .inv .0), search needs)
 
 pub count-row-spec : {M : Type 1} → statement M
 count-row-spec =

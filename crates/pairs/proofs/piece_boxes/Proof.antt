@@ -17,10 +17,14 @@ abbrev μ-loop : tie.MeasureT-loop
 μ-loop nets n w out₀ i₀ out i = n - i
 
 loop-holds : tie.Need-loop-holds Inv-loop μ-loop
-loop-holds c = (refl, search needs, boxes-start (c .before .before .args .w) (c .before .before .args .nets .now) (c .before .before .args .out .now))
+loop-holds c =
+    let args = c .before .before .args in
+    (refl, search needs, boxes-start (args .w) (args .nets .now) (args .out .now))
 
 slot-requires : tie.Need-slot-requires Inv-loop μ-loop
-slot-requires c κs = slot-below (c .before .before .loop .i) (c .before .before .before .before .before .args .n) (4 * c .before .before .before .before .before .args .w) _ (c .before .loop-test .taken) (c .before .before .before .before .before .pre .0)
+slot-requires c κs =
+    let args = c .before .before .before .before .before .args in
+    slot-below (c .before .before .loop .i) (args .n) (4 * args .w) _ (c .before .loop-test .taken) (c .before .before .before .before .before .pre .0)
 
 net-box-requires : tie.Need-net-box-requires Inv-loop μ-loop
 net-box-requires c κs = search needs
@@ -35,13 +39,18 @@ loop-less : tie.Need-loop-less Inv-loop μ-loop
 loop-less c = search needs
 
 loop-again : tie.Need-loop-again Inv-loop μ-loop
-loop-again c = (search needs, search needs, boxes-turn (c .before .before .before .before .before .before .before .before .before .before .args .w) (c .before .before .before .before .before .before .before .before .before .before .args .nets .now) (c .before .before .before .before .before .before .before .before .before .before .args .out .now) (c .before .before .before .before .before .before .before .loop .out) _ _ (c .before .before .before .before .before .before .before .loop .i) (search needs) (c .before .before .before .before .before .before .before .loop .inv .2) (c .before .before .before .net-box .ensures ∙ ap boxOf (c .before .before .before .before .slot .ensures .0)) (c .before .before .put-box .ensures))
+loop-again c =
+    let args = c .before .before .before .before .before .before .before .before .before .before .args in
+    let loop = c .before .before .before .before .before .before .before .loop in
+    (search needs, search needs, boxes-turn (args .w) (args .nets .now) (args .out .now) (loop .out) _ _ (loop .i) (search needs) (loop .inv .2) (c .before .before .before .net-box .ensures ∙ ap boxOf (c .before .before .before .before .slot .ensures .0)) (c .before .before .put-box .ensures))
 
 same-length : tie.Need-same-length Inv-loop μ-loop
 same-length c = search needs
 
 returns : tie.Need-returns Inv-loop μ-loop
-returns c = boxes-done (c .before .before .before .before .args .w) (c .before .before .before .before .args .nets .now) (c .before .before .before .before .args .out .now) (c .before .loop .out) (c .before .loop .i) (c .before .before .before .before .args .n) (c .loop-test .left) (c .before .loop .inv .1) (c .before .loop .inv .2)
+returns c =
+    let args = c .before .before .before .before .args in
+    boxes-done (args .w) (args .nets .now) (args .out .now) (c .before .loop .out) (c .before .loop .i) (args .n) (c .loop-test .left) (c .before .loop .inv .1) (c .before .loop .inv .2)
 
 pub piece-boxes-spec : {M : Type 1} → statement M
 piece-boxes-spec =

@@ -18,13 +18,20 @@ abbrev μ-loop : tie.MeasureT-loop
 μ-loop gap a k0 i w1 pieces1 breaks1 n2 w2 pieces2 breaks2 boxes2 nets1₀ nets2₀ ranges₀ depths₀ k₀ j₀ nets1 nets2 ranges depths k j = n2 - j
 
 loop-holds : tie.Need-loop-holds Inv-loop μ-loop
-loop-holds c = ((row-start (c .before .before .before .before .before .before .before .before .before .args .gap) (pieces (c .before .before .before .before .before .before .before .before .before .args .w1) (c .before .before .before .before .before .before .before .before .before .args .pieces1 .now) (c .before .before .before .before .before .before .before .before .before .args .breaks1 .now)) (pieces (c .before .before .before .before .before .before .before .before .before .args .w2) (c .before .before .before .before .before .before .before .before .before .args .pieces2 .now) (c .before .before .before .before .before .before .before .before .before .args .breaks2 .now)) (c .before .before .before .before .before .before .before .before .before .args .i) (c .before .before .before .before .before .before .before .before .before .args .n2) (c .before .before .before .before .before .before .before .before .before .args .k0) (c .before .before .before .before .before .before .before .before .before .pre .1 .0 .0) (c .before .before .before .before .before .before .before .before .before .pre .1 .0 .1) (nodes (c .before .before .before .before .before .before .before .before .before .args .nets1 .now) (c .before .before .before .before .before .before .before .before .before .args .nets2 .now) (c .before .before .before .before .before .before .before .before .before .args .ranges .now) (c .before .before .before .before .before .before .before .before .before .args .depths .now))) .0, (row-start (c .before .before .before .before .before .before .before .before .before .args .gap) (pieces (c .before .before .before .before .before .before .before .before .before .args .w1) (c .before .before .before .before .before .before .before .before .before .args .pieces1 .now) (c .before .before .before .before .before .before .before .before .before .args .breaks1 .now)) (pieces (c .before .before .before .before .before .before .before .before .before .args .w2) (c .before .before .before .before .before .before .before .before .before .args .pieces2 .now) (c .before .before .before .before .before .before .before .before .before .args .breaks2 .now)) (c .before .before .before .before .before .before .before .before .before .args .i) (c .before .before .before .before .before .before .before .before .before .args .n2) (c .before .before .before .before .before .before .before .before .before .args .k0) (c .before .before .before .before .before .before .before .before .before .pre .1 .0 .0) (c .before .before .before .before .before .before .before .before .before .pre .1 .0 .1) (nodes (c .before .before .before .before .before .before .before .before .before .args .nets1 .now) (c .before .before .before .before .before .before .before .before .before .args .nets2 .now) (c .before .before .before .before .before .before .before .before .before .args .ranges .now) (c .before .before .before .before .before .before .before .before .before .args .depths .now))) .1, search needs, refl, refl, refl, refl)
+loop-holds c =
+    let args = c .before .before .before .before .before .before .before .before .before .args in
+    let pre = c .before .before .before .before .before .before .before .before .before .pre in
+    ((row-start (args .gap) (pieces (args .w1) (args .pieces1 .now) (args .breaks1 .now)) (pieces (args .w2) (args .pieces2 .now) (args .breaks2 .now)) (args .i) (args .n2) (args .k0) (pre .1 .0 .0) (pre .1 .0 .1) (nodes (args .nets1 .now) (args .nets2 .now) (args .ranges .now) (args .depths .now))) .0, (row-start (args .gap) (pieces (args .w1) (args .pieces1 .now) (args .breaks1 .now)) (pieces (args .w2) (args .pieces2 .now) (args .breaks2 .now)) (args .i) (args .n2) (args .k0) (pre .1 .0 .0) (pre .1 .0 .1) (nodes (args .nets1 .now) (args .nets2 .now) (args .ranges .now) (args .depths .now))) .1, search needs, refl, refl, refl, refl)
 
 box-at-requires : tie.Need-box-at-requires Inv-loop μ-loop
 box-at-requires c κs = slot-below (c .before .loop .j) (c .before .before .before .before .before .before .before .before .before .before .before .args .n2) 6 _ (c .loop-test .taken) (c .before .before .before .before .before .before .before .before .before .before .before .pre .0 .1 .long)
 
 push-one-requires : tie.Need-push-one-requires Inv-loop μ-loop
-push-one-requires c κs = ((c .before .before .before .before .before .before .before .before .before .before .before .before .before .before .before .before .pre .0 .0, c .before .before .before .before .box-at .ensures ∙ box-is (c .before .before .before .before .before .before .before .before .before .before .before .before .before .before .before .before .args .w2) (c .before .before .before .before .before .before .before .before .before .before .before .before .before .before .before .before .args .pieces2 .now) (c .before .before .before .before .before .before .before .before .before .before .before .before .before .before .before .before .args .boxes2 .now) (c .before .before .before .before .before .before .before .before .before .before .before .before .before .before .before .before .args .n2) (c .before .before .before .before .before .before .loop .j) (c .before .before .before .before .before .before .before .before .before .before .before .before .before .before .before .before .pre .0 .1) (c .before .before .before .before .before .loop-test .taken)), ((c .before .before .before .before .before .before .before .before .before .before .before .before .before .before .before .before .pre .1 .0 .0, has-piece (pieces (c .before .before .before .before .before .before .before .before .before .before .before .before .before .before .before .before .args .w2) (c .before .before .before .before .before .before .before .before .before .before .before .before .before .before .before .before .args .pieces2 .now) (c .before .before .before .before .before .before .before .before .before .before .before .before .before .before .before .before .args .breaks2 .now)) (c .before .before .before .before .before .before .before .before .before .before .before .before .before .before .before .before .args .n2) (c .before .before .before .before .before .before .loop .j) (c .before .before .before .before .before .before .before .before .before .before .before .before .before .before .before .before .pre .1 .0 .1) (c .before .before .before .before .before .loop-test .taken)), row-room (c .before .before .before .before .before .before .before .before .before .before .before .before .before .before .before .before .args .gap) (pieces (c .before .before .before .before .before .before .before .before .before .before .before .before .before .before .before .before .args .w1) (c .before .before .before .before .before .before .before .before .before .before .before .before .before .before .before .before .args .pieces1 .now) (c .before .before .before .before .before .before .before .before .before .before .before .before .before .before .before .before .args .breaks1 .now)) (pieces (c .before .before .before .before .before .before .before .before .before .before .before .before .before .before .before .before .args .w2) (c .before .before .before .before .before .before .before .before .before .before .before .before .before .before .before .before .args .pieces2 .now) (c .before .before .before .before .before .before .before .before .before .before .before .before .before .before .before .before .args .breaks2 .now)) (c .before .before .before .before .before .before .before .before .before .before .before .before .before .before .before .before .args .i) (c .before .before .before .before .before .before .before .before .before .before .before .before .before .before .before .before .args .n2) (c .before .before .before .before .before .before .before .before .before .before .before .before .before .before .before .before .args .k0) (c .before .before .before .before .before .before .before .before .before .before .before .before .before .before .before .before .pre .1 .0 .0) (c .before .before .before .before .before .before .before .before .before .before .before .before .before .before .before .before .pre .1 .0 .1) (c .before .before .before .before .before .before .loop .j) (c .before .before .before .before .before .before .loop .k) (nodes (c .before .before .before .before .before .before .before .before .before .before .before .before .before .before .before .before .args .nets1 .now) (c .before .before .before .before .before .before .before .before .before .before .before .before .before .before .before .before .args .nets2 .now) (c .before .before .before .before .before .before .before .before .before .before .before .before .before .before .before .before .args .ranges .now) (c .before .before .before .before .before .before .before .before .before .before .before .before .before .before .before .before .args .depths .now)) (nodes (c .before .before .before .before .before .before .loop .nets1) (c .before .before .before .before .before .before .loop .nets2) (c .before .before .before .before .before .before .loop .ranges) (c .before .before .before .before .before .before .loop .depths)) (c .before .before .before .before .before .loop-test .taken) (c .before .before .before .before .before .before .loop .inv .3) (c .before .before .before .before .before .before .loop .inv .4) (c .before .before .before .before .before .before .loop .inv .5) (c .before .before .before .before .before .before .loop .inv .6) (c .before .before .before .before .before .before .before .before .before .before .before .before .before .before .before .before .pre .1 .1) (c .before .before .before .before .before .before .loop .inv .1)))
+push-one-requires c κs =
+    let args = c .before .before .before .before .before .before .before .before .before .before .before .before .before .before .before .before .args in
+    let pre = c .before .before .before .before .before .before .before .before .before .before .before .before .before .before .before .before .pre in
+    let loop = c .before .before .before .before .before .before .loop in
+    ((pre .0 .0, c .before .before .before .before .box-at .ensures ∙ box-is (args .w2) (args .pieces2 .now) (args .boxes2 .now) (args .n2) (loop .j) (pre .0 .1) (c .before .before .before .before .before .loop-test .taken)), ((pre .1 .0 .0, has-piece (pieces (args .w2) (args .pieces2 .now) (args .breaks2 .now)) (args .n2) (loop .j) (pre .1 .0 .1) (c .before .before .before .before .before .loop-test .taken)), row-room (args .gap) (pieces (args .w1) (args .pieces1 .now) (args .breaks1 .now)) (pieces (args .w2) (args .pieces2 .now) (args .breaks2 .now)) (args .i) (args .n2) (args .k0) (pre .1 .0 .0) (pre .1 .0 .1) (loop .j) (loop .k) (nodes (args .nets1 .now) (args .nets2 .now) (args .ranges .now) (args .depths .now)) (nodes (loop .nets1) (loop .nets2) (loop .ranges) (loop .depths)) (c .before .before .before .before .before .loop-test .taken) (loop .inv .3) (loop .inv .4) (loop .inv .5) (loop .inv .6) (pre .1 .1) (loop .inv .1)))
 
 add-j : tie.Need-add-j Inv-loop μ-loop
 add-j c = omega (arith, c .before .before .before .before .before .before .before .before .before .before .before .before .before .before .loop-test .taken, c .before .before .before .before .before .before .before .before .before .before .before .before .before .before .before .before .before .before .before .before .before .before .before .before .before .fits .n2 .fits)
@@ -33,7 +40,11 @@ loop-less : tie.Need-loop-less Inv-loop μ-loop
 loop-less c = search needs
 
 loop-again : tie.Need-loop-again Inv-loop μ-loop
-loop-again c = ((row-push (c .before .before .before .before .before .before .before .before .before .before .before .before .before .before .before .before .before .before .before .before .before .before .before .before .before .args .gap) (pieces (c .before .before .before .before .before .before .before .before .before .before .before .before .before .before .before .before .before .before .before .before .before .before .before .before .before .args .w1) (c .before .before .before .before .before .before .before .before .before .before .before .before .before .before .before .before .before .before .before .before .before .before .before .before .before .args .pieces1 .now) (c .before .before .before .before .before .before .before .before .before .before .before .before .before .before .before .before .before .before .before .before .before .before .before .before .before .args .breaks1 .now)) (pieces (c .before .before .before .before .before .before .before .before .before .before .before .before .before .before .before .before .before .before .before .before .before .before .before .before .before .args .w2) (c .before .before .before .before .before .before .before .before .before .before .before .before .before .before .before .before .before .before .before .before .before .before .before .before .before .args .pieces2 .now) (c .before .before .before .before .before .before .before .before .before .before .before .before .before .before .before .before .before .before .before .before .before .before .before .before .before .args .breaks2 .now)) (c .before .before .before .before .before .before .before .before .before .before .before .before .before .before .before .before .before .before .before .before .before .before .before .before .before .args .i) (c .before .before .before .before .before .before .before .before .before .before .before .before .before .before .before .before .before .before .before .before .before .before .before .before .before .args .n2) (c .before .before .before .before .before .before .before .before .before .before .before .before .before .before .before .before .before .before .before .before .before .before .before .before .before .args .k0) (c .before .before .before .before .before .before .before .before .before .before .before .before .before .before .before .before .before .before .before .before .before .before .before .before .before .pre .1 .0 .0) (c .before .before .before .before .before .before .before .before .before .before .before .before .before .before .before .before .before .before .before .before .before .before .before .before .before .pre .1 .0 .1) (c .before .before .before .before .before .before .before .before .before .before .before .before .before .before .before .loop .j) (c .before .before .before .before .before .before .before .before .before .before .before .before .before .before .before .loop .k) _ (nodes (c .before .before .before .before .before .before .before .before .before .before .before .before .before .before .before .before .before .before .before .before .before .before .before .before .before .args .nets1 .now) (c .before .before .before .before .before .before .before .before .before .before .before .before .before .before .before .before .before .before .before .before .before .before .before .before .before .args .nets2 .now) (c .before .before .before .before .before .before .before .before .before .before .before .before .before .before .before .before .before .before .before .before .before .before .before .before .before .args .ranges .now) (c .before .before .before .before .before .before .before .before .before .before .before .before .before .before .before .before .before .before .before .before .before .before .before .before .before .args .depths .now)) (nodes (c .before .before .before .before .before .before .before .before .before .before .before .before .before .before .before .loop .nets1) (c .before .before .before .before .before .before .before .before .before .before .before .before .before .before .before .loop .nets2) (c .before .before .before .before .before .before .before .before .before .before .before .before .before .before .before .loop .ranges) (c .before .before .before .before .before .before .before .before .before .before .before .before .before .before .before .loop .depths)) _ (c .before .before .before .before .before .before .before .before .before .before .before .before .before .before .loop-test .taken) (c .before .before .before .before .before .before .before .before .before .before .before .before .before .before .before .before .before .before .before .before .before .before .before .before .before .pre .1 .1) (c .before .before .before .before .before .before .before .before .before .before .before .before .before .before .before .loop .inv .1) (c .before .before .before .before .before .before .before .before .before .before .before .before .before .before .before .loop .inv .0) (c .before .before .before .before .before .before .before .before .push-one .ensures .0) (c .before .before .before .before .before .before .before .before .push-one .ensures .1)) .0, (row-push (c .before .before .before .before .before .before .before .before .before .before .before .before .before .before .before .before .before .before .before .before .before .before .before .before .before .args .gap) (pieces (c .before .before .before .before .before .before .before .before .before .before .before .before .before .before .before .before .before .before .before .before .before .before .before .before .before .args .w1) (c .before .before .before .before .before .before .before .before .before .before .before .before .before .before .before .before .before .before .before .before .before .before .before .before .before .args .pieces1 .now) (c .before .before .before .before .before .before .before .before .before .before .before .before .before .before .before .before .before .before .before .before .before .before .before .before .before .args .breaks1 .now)) (pieces (c .before .before .before .before .before .before .before .before .before .before .before .before .before .before .before .before .before .before .before .before .before .before .before .before .before .args .w2) (c .before .before .before .before .before .before .before .before .before .before .before .before .before .before .before .before .before .before .before .before .before .before .before .before .before .args .pieces2 .now) (c .before .before .before .before .before .before .before .before .before .before .before .before .before .before .before .before .before .before .before .before .before .before .before .before .before .args .breaks2 .now)) (c .before .before .before .before .before .before .before .before .before .before .before .before .before .before .before .before .before .before .before .before .before .before .before .before .before .args .i) (c .before .before .before .before .before .before .before .before .before .before .before .before .before .before .before .before .before .before .before .before .before .before .before .before .before .args .n2) (c .before .before .before .before .before .before .before .before .before .before .before .before .before .before .before .before .before .before .before .before .before .before .before .before .before .args .k0) (c .before .before .before .before .before .before .before .before .before .before .before .before .before .before .before .before .before .before .before .before .before .before .before .before .before .pre .1 .0 .0) (c .before .before .before .before .before .before .before .before .before .before .before .before .before .before .before .before .before .before .before .before .before .before .before .before .before .pre .1 .0 .1) (c .before .before .before .before .before .before .before .before .before .before .before .before .before .before .before .loop .j) (c .before .before .before .before .before .before .before .before .before .before .before .before .before .before .before .loop .k) _ (nodes (c .before .before .before .before .before .before .before .before .before .before .before .before .before .before .before .before .before .before .before .before .before .before .before .before .before .args .nets1 .now) (c .before .before .before .before .before .before .before .before .before .before .before .before .before .before .before .before .before .before .before .before .before .before .before .before .before .args .nets2 .now) (c .before .before .before .before .before .before .before .before .before .before .before .before .before .before .before .before .before .before .before .before .before .before .before .before .before .args .ranges .now) (c .before .before .before .before .before .before .before .before .before .before .before .before .before .before .before .before .before .before .before .before .before .before .before .before .before .args .depths .now)) (nodes (c .before .before .before .before .before .before .before .before .before .before .before .before .before .before .before .loop .nets1) (c .before .before .before .before .before .before .before .before .before .before .before .before .before .before .before .loop .nets2) (c .before .before .before .before .before .before .before .before .before .before .before .before .before .before .before .loop .ranges) (c .before .before .before .before .before .before .before .before .before .before .before .before .before .before .before .loop .depths)) _ (c .before .before .before .before .before .before .before .before .before .before .before .before .before .before .loop-test .taken) (c .before .before .before .before .before .before .before .before .before .before .before .before .before .before .before .before .before .before .before .before .before .before .before .before .before .pre .1 .1) (c .before .before .before .before .before .before .before .before .before .before .before .before .before .before .before .loop .inv .1) (c .before .before .before .before .before .before .before .before .before .before .before .before .before .before .before .loop .inv .0) (c .before .before .before .before .before .before .before .before .push-one .ensures .0) (c .before .before .before .before .before .before .before .before .push-one .ensures .1)) .1, search needs, c .before .before .before .before .before .before .before .before .push-one .kept .1 .1 .1 .1 .1 .1 .1 .1 .1 .1 .1 .1 .0 ∙ c .before .before .before .before .before .before .before .before .before .before .before .before .before .before .before .loop .inv .3, c .before .before .before .before .before .before .before .before .push-one .kept .1 .1 .1 .1 .1 .1 .1 .1 .1 .1 .1 .1 .1 .0 ∙ c .before .before .before .before .before .before .before .before .before .before .before .before .before .before .before .loop .inv .4, c .before .before .before .before .before .before .before .before .push-one .kept .1 .1 .1 .1 .1 .1 .1 .1 .1 .1 .1 .1 .1 .1 .0 ∙ c .before .before .before .before .before .before .before .before .before .before .before .before .before .before .before .loop .inv .5, c .before .before .before .before .before .before .before .before .push-one .kept .1 .1 .1 .1 .1 .1 .1 .1 .1 .1 .1 .1 .1 .1 .1 .0 ∙ c .before .before .before .before .before .before .before .before .before .before .before .before .before .before .before .loop .inv .6)
+loop-again c =
+    let args = c .before .before .before .before .before .before .before .before .before .before .before .before .before .before .before .before .before .before .before .before .before .before .before .before .before .args in
+    let pre = c .before .before .before .before .before .before .before .before .before .before .before .before .before .before .before .before .before .before .before .before .before .before .before .before .before .pre in
+    let loop = c .before .before .before .before .before .before .before .before .before .before .before .before .before .before .before .loop in
+    ((row-push (args .gap) (pieces (args .w1) (args .pieces1 .now) (args .breaks1 .now)) (pieces (args .w2) (args .pieces2 .now) (args .breaks2 .now)) (args .i) (args .n2) (args .k0) (pre .1 .0 .0) (pre .1 .0 .1) (loop .j) (loop .k) _ (nodes (args .nets1 .now) (args .nets2 .now) (args .ranges .now) (args .depths .now)) (nodes (loop .nets1) (loop .nets2) (loop .ranges) (loop .depths)) _ (c .before .before .before .before .before .before .before .before .before .before .before .before .before .before .loop-test .taken) (pre .1 .1) (loop .inv .1) (loop .inv .0) (c .before .before .before .before .before .before .before .before .push-one .ensures .0) (c .before .before .before .before .before .before .before .before .push-one .ensures .1)) .0, (row-push (args .gap) (pieces (args .w1) (args .pieces1 .now) (args .breaks1 .now)) (pieces (args .w2) (args .pieces2 .now) (args .breaks2 .now)) (args .i) (args .n2) (args .k0) (pre .1 .0 .0) (pre .1 .0 .1) (loop .j) (loop .k) _ (nodes (args .nets1 .now) (args .nets2 .now) (args .ranges .now) (args .depths .now)) (nodes (loop .nets1) (loop .nets2) (loop .ranges) (loop .depths)) _ (c .before .before .before .before .before .before .before .before .before .before .before .before .before .before .loop-test .taken) (pre .1 .1) (loop .inv .1) (loop .inv .0) (c .before .before .before .before .before .before .before .before .push-one .ensures .0) (c .before .before .before .before .before .before .before .before .push-one .ensures .1)) .1, search needs, c .before .before .before .before .before .before .before .before .push-one .kept .1 .1 .1 .1 .1 .1 .1 .1 .1 .1 .1 .1 .0 ∙ loop .inv .3, c .before .before .before .before .before .before .before .before .push-one .kept .1 .1 .1 .1 .1 .1 .1 .1 .1 .1 .1 .1 .1 .0 ∙ loop .inv .4, c .before .before .before .before .before .before .before .before .push-one .kept .1 .1 .1 .1 .1 .1 .1 .1 .1 .1 .1 .1 .1 .1 .0 ∙ loop .inv .5, c .before .before .before .before .before .before .before .before .push-one .kept .1 .1 .1 .1 .1 .1 .1 .1 .1 .1 .1 .1 .1 .1 .1 .0 ∙ loop .inv .6)
 
 same-length : tie.Need-same-length Inv-loop μ-loop
 same-length c = c .before .loop .inv .3
@@ -48,7 +59,10 @@ same-length-4 : tie.Need-same-length-4 Inv-loop μ-loop
 same-length-4 c = c .before .loop .inv .6
 
 returns : tie.Need-returns Inv-loop μ-loop
-returns c = row-pushed (c .before .before .before .before .before .before .before .before .before .before .before .args .gap) (pieces (c .before .before .before .before .before .before .before .before .before .before .before .args .w1) (c .before .before .before .before .before .before .before .before .before .before .before .args .pieces1 .now) (c .before .before .before .before .before .before .before .before .before .before .before .args .breaks1 .now)) (pieces (c .before .before .before .before .before .before .before .before .before .before .before .args .w2) (c .before .before .before .before .before .before .before .before .before .before .before .args .pieces2 .now) (c .before .before .before .before .before .before .before .before .before .before .before .args .breaks2 .now)) (c .before .before .before .before .before .before .before .before .before .before .before .args .i) (c .before .before .before .before .before .before .before .before .before .before .before .args .n2) (c .before .before .before .before .before .before .before .before .before .before .before .args .k0) (c .before .before .before .before .before .before .before .before .before .before .before .pre .1 .0 .0) (c .before .before .before .before .before .before .before .before .before .before .before .pre .1 .0 .1) (c .before .loop .j) (c .before .loop .k) (nodes (c .before .before .before .before .before .before .before .before .before .before .before .args .nets1 .now) (c .before .before .before .before .before .before .before .before .before .before .before .args .nets2 .now) (c .before .before .before .before .before .before .before .before .before .before .before .args .ranges .now) (c .before .before .before .before .before .before .before .before .before .before .before .args .depths .now)) (nodes (c .before .loop .nets1) (c .before .loop .nets2) (c .before .loop .ranges) (c .before .loop .depths)) (c .loop-test .left) (c .before .loop .inv .2) (c .before .loop .inv .0) (c .before .loop .inv .1)
+returns c =
+    let args = c .before .before .before .before .before .before .before .before .before .before .before .args in
+    let pre = c .before .before .before .before .before .before .before .before .before .before .before .pre in
+    row-pushed (args .gap) (pieces (args .w1) (args .pieces1 .now) (args .breaks1 .now)) (pieces (args .w2) (args .pieces2 .now) (args .breaks2 .now)) (args .i) (args .n2) (args .k0) (pre .1 .0 .0) (pre .1 .0 .1) (c .before .loop .j) (c .before .loop .k) (nodes (args .nets1 .now) (args .nets2 .now) (args .ranges .now) (args .depths .now)) (nodes (c .before .loop .nets1) (c .before .loop .nets2) (c .before .loop .ranges) (c .before .loop .depths)) (c .loop-test .left) (c .before .loop .inv .2) (c .before .loop .inv .0) (c .before .loop .inv .1)
 
 pub push-row-spec : {M : Type 1} → statement M
 push-row-spec =

@@ -22,26 +22,28 @@ add-to c = search needs
 slot-requires : tie.Need-slot-requires
 slot-requires c κs = search needs
 
-mul-copy-into : tie.Need-mul-copy-into
-mul-copy-into c = search needs
+mul-copy-from-slice : tie.Need-mul-copy-from-slice
+mul-copy-from-slice c = search needs
 
-sub-copy-into : tie.Need-sub-copy-into
-sub-copy-into c = search needs
+sub-copy-from-slice : tie.Need-sub-copy-from-slice
+sub-copy-from-slice c = search needs
 
-part-copy-into-start : tie.Need-part-copy-into-start
-part-copy-into-start c = search needs
+part-copy-from-slice-start : tie.Need-part-copy-from-slice-start
+part-copy-from-slice-start c = search needs
 
-part-copy-into-end : tie.Need-part-copy-into-end
-part-copy-into-end c = search needs
+part-copy-from-slice-end : tie.Need-part-copy-from-slice-end
+part-copy-from-slice-end c = search needs
 
-copy-into-requires : tie.Need-copy-into-requires
-copy-into-requires c κs = search needs
+copy-from-slice-requires : tie.Need-copy-from-slice-requires
+copy-from-slice-requires c κs = search needs
 
 same-length : tie.Need-same-length
 same-length c = search needs
 
 returns : tie.Need-returns
-returns c = given-back (c .before .before .before .before .before .before .before .args .k * (4 * c .before .before .before .before .before .before .before .args .w)) (4 * c .before .before .before .before .before .before .before .args .w) (c .before .before .copy-into .ensures ∙ c .before .before .before .before .slot .ensures .0) refl (ap length (sym (c .before .before .before .before .slot .ensures .0)) ∙ c .before .before .before .before .slot .ensures .1)
+returns c =
+    let args = c .before .before .before .before .before .before .before .args in
+    given-back (args .k * (4 * args .w)) (4 * args .w) (c .before .before .copy-from-slice .ensures ∙ c .before .before .before .before .slot .ensures .0) refl (ap length (sym (c .before .before .before .before .slot .ensures .0)) ∙ c .before .before .before .before .slot .ensures .1)
 
 pub put-slot-spec : {M : Type 1} → statement M
 put-slot-spec =
@@ -52,10 +54,10 @@ put-slot-spec =
     mul-to
     add-to
     slot-requires
-    mul-copy-into
-    sub-copy-into
-    part-copy-into-start
-    part-copy-into-end
-    copy-into-requires
+    mul-copy-from-slice
+    sub-copy-from-slice
+    part-copy-from-slice-start
+    part-copy-from-slice-end
+    copy-from-slice-requires
     same-length
     returns)

@@ -62,7 +62,9 @@ part-net-start : tie.Need-part-net-start Inv-loop μ-loop
 part-net-start c = search needs
 
 part-net-end : tie.Need-part-net-end Inv-loop μ-loop
-part-net-end c = omega (arith, laws.room (length (c .before .before .before .before .before .before .before .before .before .args .breaks .now) - 1) (c .before .before .before .loop .i) (4 * (c .before .before .before .before .before .before .before .before .before .args .p + 1)) (length (c .before .before .before .loop .out)) (omega arith) (omega (arith, c .before .before .before .before .before .before .before .before .before .pre)))
+part-net-end c =
+    let args = c .before .before .before .before .before .before .before .before .before .args in
+    omega (arith, laws.room (length (args .breaks .now) - 1) (c .before .before .before .loop .i) (4 * (args .p + 1)) (length (c .before .before .before .loop .out)) (omega arith) (omega (arith, c .before .before .before .before .before .before .before .before .before .pre)))
 
 net-requires : tie.Need-net-requires Inv-loop μ-loop
 net-requires c κs = search needs

@@ -8,7 +8,9 @@ use Rattle.pieces_run.proofs.print_pieces.Statement.{statement}
 use Rattle.pieces_run.proofs.print_pieces.Tie as tie
 
 piece-count-requires : tie.Need-piece-count-requires
-piece-count-requires c κs = counts (c .before .before .before .before .args .degree) (c .before .before .before .before .args .knots .now) (c .before .before .before .before .args .mults .now) (c .before .before .before .before .args .coords .now) (c .before .before .before .before .args .weights .now) (c .before .before .before .before .pre) .few-knots
+piece-count-requires c κs =
+    let args = c .before .before .before .before .args in
+    counts (args .degree) (args .knots .now) (args .mults .now) (args .coords .now) (args .weights .now) (c .before .before .before .before .pre) .few-knots
 
 net-room-requires : tie.Need-net-room-requires
 net-room-requires c κs = search needs
@@ -18,10 +20,12 @@ slice-aggregate-curve-pieces c = search needs
 
 curve-pieces-requires : tie.Need-curve-pieces-requires
 curve-pieces-requires c κs =
-    let k = counts (c .before .before .before .before .before .before .before .args .degree) (c .before .before .before .before .before .before .before .args .knots .now) (c .before .before .before .before .before .before .before .args .mults .now) (c .before .before .before .before .before .before .before .args .coords .now) (c .before .before .before .before .before .before .before .args .weights .now) (c .before .before .before .before .before .before .before .pre) in
+    let args = c .before .before .before .before .before .before .before .args in
+    let pre = c .before .before .before .before .before .before .before .pre in
+    let k = counts (args .degree) (args .knots .now) (args .mults .now) (args .coords .now) (args .weights .now) (pre) in
     let n = c .before .before .piece-count in
-    let s = rw (n .ensures .0) at (laws.small (n .result) (c .before .before .before .before .before .before .before .args .degree) (n .ensures .2) (k .most)) in
-    (c .before .before .before .before .before .before .before .pre, omega (arith, s, c .before .net-room .ensures))
+    let s = rw (n .ensures .0) at (laws.small (n .result) (args .degree) (n .ensures .2) (k .most)) in
+    (pre, omega (arith, s, c .before .net-room .ensures))
 
 count-requires : tie.Need-count-requires
 count-requires c κs = search needs
@@ -34,7 +38,8 @@ slice-aggregate-print-nets c = search needs
 
 print-nets-requires : tie.Need-print-nets-requires
 print-nets-requires c κs =
-    let k = counts (c .before .before .before .before .before .before .before .before .before .before .before .args .degree) (c .before .before .before .before .before .before .before .before .before .before .before .args .knots .now) (c .before .before .before .before .before .before .before .before .before .before .before .args .mults .now) (c .before .before .before .before .before .before .before .before .before .before .before .args .coords .now) (c .before .before .before .before .before .before .before .before .before .before .before .args .weights .now) (c .before .before .before .before .before .before .before .before .before .before .before .pre) in
+    let args = c .before .before .before .before .before .before .before .before .before .before .before .args in
+    let k = counts (args .degree) (args .knots .now) (args .mults .now) (args .coords .now) (args .weights .now) (c .before .before .before .before .before .before .before .before .before .before .before .pre) in
     let n = c .before .before .before .before .before .before .piece-count in
     let d = c .before .count in
     let m : d .result ≤ 25 = omega (arith, d .ensures, k .most) in

@@ -31,7 +31,9 @@ add-w2 : tie.Need-add-w2
 add-w2 c = search needs
 
 slice-aggregate-answer : tie.Need-slice-aggregate-answer
-slice-aggregate-answer c = sym (length-take-le (c .before .before .before .before .before .before .before .before .before .before .before .before .before .before .args .h1 .knots) (c .before .before .before .before .before .before .before .before .before .before .before .before .before .before .args .floats1 .now) (omega arith))
+slice-aggregate-answer c =
+    let args = c .before .before .before .before .before .before .before .before .before .before .before .before .before .before .args in
+    sym (length-take-le (args .h1 .knots) (args .floats1 .now) (omega arith))
 
 mul-answer : tie.Need-mul-answer
 mul-answer c = search needs
@@ -73,7 +75,9 @@ shared-slice-read-answer-2 : tie.Need-shared-slice-read-answer-2
 shared-slice-read-answer-2 c = search needs
 
 slice-aggregate-answer-2 : tie.Need-slice-aggregate-answer-2
-slice-aggregate-answer-2 c = sym (length-take-le (c .before .before .before .before .before .before .before .before .before .before .before .before .before .before .before .before .before .before .before .args .h2 .knots) (c .before .before .before .before .before .before .before .before .before .before .before .before .before .before .before .before .before .before .before .args .floats2 .now) (omega arith))
+slice-aggregate-answer-2 c =
+    let args = c .before .before .before .before .before .before .before .before .before .before .before .before .before .before .before .before .before .before .before .args in
+    sym (length-take-le (args .h2 .knots) (args .floats2 .now) (omega arith))
 
 mul-answer-5 : tie.Need-mul-answer-5
 mul-answer-5 c = search needs

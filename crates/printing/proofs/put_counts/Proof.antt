@@ -29,7 +29,9 @@ same-length : tie.Need-same-length
 same-length c = search needs
 
 returns : tie.Need-returns
-returns c = counts-are (c .before .before .before .before .before .before .before .before .before .before .before .before .before .before .before .before .before .before .before .before .before .before .before .args .out .now) (c .before .before .before .before .before .before .before .before .before .before .before .before .before .before .before .before .before .before .before .before .before .before .before .args .w) (c .before .before .before .before .before .before .before .before .before .before .before .before .before .before .before .before .before .before .before .before .before .before .before .args .c) (c .before .before .before .before .before .before .before .before .before .before .before .before .before .before .before .before .before .before .before .before .before .before .before .args .regions) (search needs) (c .before .before .before .before .before .before .before .before .before .before .before .before .before .before .before .before .before .before .before .before .put-word .ensures) (c .before .before .before .before .before .before .before .before .before .before .before .before .before .before .before .before .put-steps .ensures) (c .before .before .before .before .before .before .before .before .before .before .before .before .put-nodes .ensures) (c .before .before .before .before .before .before .before .put-count .ensures) (c .before .before .put-bytes .ensures)
+returns c =
+    let args = c .before .before .before .before .before .before .before .before .before .before .before .before .before .before .before .before .before .before .before .before .before .before .before .args in
+    counts-are (args .out .now) (args .w) (args .c) (args .regions) (search needs) (c .before .before .before .before .before .before .before .before .before .before .before .before .before .before .before .before .before .before .before .before .put-word .ensures) (c .before .before .before .before .before .before .before .before .before .before .before .before .before .before .before .before .put-steps .ensures) (c .before .before .before .before .before .before .before .before .before .before .before .before .put-nodes .ensures) (c .before .before .before .before .before .before .before .put-count .ensures) (c .before .before .put-bytes .ensures)
 
 pub put-counts-spec : {M : Type 1} → statement M
 put-counts-spec =

@@ -17,7 +17,9 @@ abbrev μ-loop : tie.MeasureT-loop
 μ-loop out₀ at xs here₀ i₀ out here i = length xs - i
 
 loop-holds : tie.Need-loop-holds Inv-loop μ-loop
-loop-holds c = (refl, search needs, omega arith, texts-start (c .before .before .args .out .now) (c .before .before .args .at) (c .before .before .args .xs .now))
+loop-holds c =
+    let args = c .before .before .args in
+    (refl, search needs, omega arith, texts-start (args .out .now) (args .at) (args .xs .now))
 
 mul-put-float : tie.Need-mul-put-float Inv-loop μ-loop
 mul-put-float c = search needs
@@ -36,14 +38,18 @@ loop-less c = search needs
 
 loop-again : tie.Need-loop-again Inv-loop μ-loop
 loop-again c =
-    let t = texts-turn (c .before .before .before .before .before .before .before .before .before .args .out .now) (c .before .before .before .before .before .before .before .before .before .args .at) (c .before .before .before .before .before .before .before .before .before .args .xs .now) (c .before .before .before .before .before .before .loop .i) (search needs) (search needs) (c .before .before .before .before .before .before .loop .inv .2) (c .before .before .before .before .before .before .loop .inv .3) (c .before .before .put-float .ensures) in
+    let args = c .before .before .before .before .before .before .before .before .before .args in
+    let loop = c .before .before .before .before .before .before .loop in
+    let t = texts-turn (args .out .now) (args .at) (args .xs .now) (loop .i) (search needs) (search needs) (loop .inv .2) (loop .inv .3) (c .before .before .put-float .ensures) in
     (search needs, search needs, t .0, t .1)
 
 same-length : tie.Need-same-length Inv-loop μ-loop
 same-length c = search needs
 
 returns : tie.Need-returns Inv-loop μ-loop
-returns c = texts-done (c .before .before .before .before .args .out .now) (c .before .before .before .before .args .at) (c .before .before .before .before .args .xs .now) (c .before .loop .i) (search needs) (search needs) (c .before .loop .inv .2) (c .before .loop .inv .3)
+returns c =
+    let args = c .before .before .before .before .args in
+    texts-done (args .out .now) (args .at) (args .xs .now) (c .before .loop .i) (search needs) (search needs) (c .before .loop .inv .2) (c .before .loop .inv .3)
 
 pub put-floats-spec : {M : Type 1} → statement M
 put-floats-spec =

@@ -26,7 +26,9 @@ same-length : tie.Need-same-length
 same-length c = search needs
 
 returns : tie.Need-returns
-returns c = refusal-is (c .before .before .before .before .before .before .before .before .before .before .before .before .before .before .before .before .args .out .now) (c .before .before .before .before .before .before .before .before .before .before .before .before .before .before .before .before .args .number) (c .before .before .before .before .before .before .before .before .before .before .before .before .before .before .before .before .args .line) (search needs) (c .before .before .before .before .before .before .before .before .before .before .before .before .put-count .ensures) (c .before .before .before .before .before .before .before .put-count2 .ensures) (c .before .before .put-bytes .ensures)
+returns c =
+    let args = c .before .before .before .before .before .before .before .before .before .before .before .before .before .before .before .before .args in
+    refusal-is (args .out .now) (args .number) (args .line) (search needs) (c .before .before .before .before .before .before .before .before .before .before .before .before .put-count .ensures) (c .before .before .before .before .before .before .before .put-count2 .ensures) (c .before .before .put-bytes .ensures)
 
 pub put-refusal-spec : {M : Type 1} → statement M
 put-refusal-spec =

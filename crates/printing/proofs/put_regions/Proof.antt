@@ -18,7 +18,9 @@ abbrev μ-loop : tie.MeasureT-loop
 μ-loop out₀ at list n here₀ k₀ out here k = n - k
 
 loop-holds : tie.Need-loop-holds Inv-loop μ-loop
-loop-holds c = (refl, search needs, omega arith, regions-start (c .before .before .args .out .now) (c .before .before .args .at) (c .before .before .args .list .now))
+loop-holds c =
+    let args = c .before .before .args in
+    (refl, search needs, omega arith, regions-start (args .out .now) (args .at) (args .list .now))
 
 mul-from : tie.Need-mul-from Inv-loop μ-loop
 mul-from c = search needs
@@ -49,14 +51,18 @@ loop-less c = search needs
 
 loop-again : tie.Need-loop-again Inv-loop μ-loop
 loop-again c =
-    let t = regions-turn (c .before .before .before .before .before .before .before .before .before .args .out .now) (c .before .before .before .before .before .before .before .before .before .args .at) (c .before .before .before .before .before .before .before .before .before .args .list .now) (c .before .before .before .before .before .before .loop .k) (c .before .before .before .before .before .before .before .before .before .args .n) (search needs) (search needs) (search needs) (c .before .before .before .before .before .before .loop .inv .2) (c .before .before .before .before .before .before .loop .inv .3) (c .before .before .put-region .ensures) in
+    let args = c .before .before .before .before .before .before .before .before .before .args in
+    let loop = c .before .before .before .before .before .before .loop in
+    let t = regions-turn (args .out .now) (args .at) (args .list .now) (loop .k) (args .n) (search needs) (search needs) (search needs) (loop .inv .2) (loop .inv .3) (c .before .before .put-region .ensures) in
     (search needs, search needs, t .0, t .1)
 
 same-length : tie.Need-same-length Inv-loop μ-loop
 same-length c = search needs
 
 returns : tie.Need-returns Inv-loop μ-loop
-returns c = regions-done (c .before .before .before .before .args .out .now) (c .before .before .before .before .args .at) (c .before .before .before .before .args .list .now) (c .before .loop .k) (c .before .before .before .before .args .n) (search needs) (search needs) (search needs) (c .before .loop .inv .2) (c .before .loop .inv .3)
+returns c =
+    let args = c .before .before .before .before .args in
+    regions-done (args .out .now) (args .at) (args .list .now) (c .before .loop .k) (args .n) (search needs) (search needs) (search needs) (c .before .loop .inv .2) (c .before .loop .inv .3)
 
 pub put-regions-spec : {M : Type 1} → statement M
 put-regions-spec =

@@ -36,19 +36,25 @@ same-length : tie.Need-same-length
 same-length c = search needs
 
 returns : tie.Need-returns
-returns c = word-is (c .before .before .before .before .before .before .before .before .args .out .now) (c .before .before .before .before .before .before .before .before .args .w) Complete (c .before .before .before .before .before .enum-told .given .1) (c .before .before .put-bytes .ensures)
+returns c =
+    let args = c .before .before .before .before .before .before .before .before .args in
+    word-is (args .out .now) (args .w) Complete (c .before .before .before .before .before .enum-told .given .1) (c .before .before .put-bytes .ensures)
 
 same-length-2 : tie.Need-same-length-2
 same-length-2 c = search needs
 
 returns-2 : tie.Need-returns-2
-returns-2 c = word-is (c .before .before .before .before .before .before .before .before .args .out .now) (c .before .before .before .before .before .before .before .before .args .w) Budget (c .before .before .before .before .before .enum-told2 .given .1) (c .before .before .put-bytes2 .ensures)
+returns-2 c =
+    let args = c .before .before .before .before .before .before .before .before .args in
+    word-is (args .out .now) (args .w) Budget (c .before .before .before .before .before .enum-told2 .given .1) (c .before .before .put-bytes2 .ensures)
 
 same-length-3 : tie.Need-same-length-3
 same-length-3 c = search needs
 
 returns-3 : tie.Need-returns-3
-returns-3 c = word-is (c .before .before .before .before .before .before .before .before .args .out .now) (c .before .before .before .before .before .before .before .before .args .w) Unseparated (c .before .before .before .before .before .enum-told3 .given .1) (c .before .before .put-bytes3 .ensures)
+returns-3 c =
+    let args = c .before .before .before .before .before .before .before .before .args in
+    word-is (args .out .now) (args .w) Unseparated (c .before .before .before .before .before .enum-told3 .given .1) (c .before .before .put-bytes3 .ensures)
 
 pub put-word-spec : {M : Type 1} → statement M
 put-word-spec =

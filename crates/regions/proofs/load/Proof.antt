@@ -96,7 +96,9 @@ shared-slice-read-t42 : tie.Need-shared-slice-read-t42
 shared-slice-read-t42 c = search needs
 
 returns : tie.Need-returns
-returns c = ten-read (c .before .before .before .before .before .before .before .before .before .before .args .s .now) (c .before .before .before .before .before .before .before .before .before .before .args .i * 10)
+returns c =
+    let args = c .before .before .before .before .before .before .before .before .before .before .args in
+    ten-read (args .s .now) (args .i * 10)
 
 pub load-spec : {M : Type 1} → statement M
 load-spec =

@@ -1,5 +1,5 @@
 -- `touches` is touchesOf: one case a return. Assumes nothing.
-use Rattle.regions.proofs.Laws.{and-then, and-not}
+use Rattle.lists.proofs.Tests.{and-then, and-not}
 use borrow.Author.Needs.{needs}
 use Rattle.regions.proofs.touches.Statement.{statement}
 use Rattle.regions.proofs.touches.Tie as tie

@@ -1,7 +1,6 @@
 -- `report` is reportDef: one test a return, then the left nodes' regions and the merged list. Assumes nothing.
 use borrow.Author.Needs.{needs}
 use mathlib.Core.Path.{sym, ap, _∙_}
-use native.Mathlib.Omega.{arith}
 use borrow.Author.Tests.{not-true, not-false}
 use Rattle.states.specs.States.{memory, sizes, searchWith}
 use Rattle.nodes.specs.Nets.{geometry}
@@ -13,19 +12,25 @@ ended-requires : tie.Need-ended-requires
 ended-requires c κs = search needs
 
 returns : tie.Need-returns
-returns c = report-running geometry (c .before .before .before .before .before .before .before .before .args .st) (memory (c .before .before .before .before .before .before .before .before .args .nets1 .now) (c .before .before .before .before .before .before .before .before .args .nets2 .now) (c .before .before .before .before .before .before .before .before .args .ranges .now) (c .before .before .before .before .before .before .before .before .args .depths .now) (c .before .before .before .before .before .before .before .before .args .raw .now)) (c .before .before .before .before .before .before .before .before .args .out .now) (sym (c .before .ended .ensures) ∙ not-true _ (c .if1 .taken))
+returns c =
+    let args = c .before .before .before .before .before .before .before .before .args in
+    report-running geometry (args .st) (memory (args .nets1 .now) (args .nets2 .now) (args .ranges .now) (args .depths .now) (args .raw .now)) (args .out .now) (sym (c .before .ended .ensures) ∙ not-true _ (c .if1 .taken))
 
 has-room-requires : tie.Need-has-room-requires
 has-room-requires c κs = search needs
 
 returns-2 : tie.Need-returns-2
-returns-2 c = report-short geometry (c .before .before .before .before .before .before .before .before .before .before .args .st) (memory (c .before .before .before .before .before .before .before .before .before .before .args .nets1 .now) (c .before .before .before .before .before .before .before .before .before .before .args .nets2 .now) (c .before .before .before .before .before .before .before .before .before .before .args .ranges .now) (c .before .before .before .before .before .before .before .before .before .before .args .depths .now) (c .before .before .before .before .before .before .before .before .before .before .args .raw .now)) (c .before .before .before .before .before .before .before .before .before .before .args .out .now) (sym (c .before .before .before .ended .ensures) ∙ not-false _ (c .before .before .if1 .left)) (sym (c .before .has-room .ensures) ∙ not-true _ (c .if2 .taken))
+returns-2 c =
+    let args = c .before .before .before .before .before .before .before .before .before .before .args in
+    report-short geometry (args .st) (memory (args .nets1 .now) (args .nets2 .now) (args .ranges .now) (args .depths .now) (args .raw .now)) (args .out .now) (sym (c .before .before .before .ended .ensures) ∙ not-false _ (c .before .before .if1 .left)) (sym (c .before .has-room .ensures) ∙ not-true _ (c .if2 .taken))
 
 has-report-room-requires : tie.Need-has-report-room-requires
 has-report-room-requires c κs = search needs
 
 returns-3 : tie.Need-returns-3
-returns-3 c = report-cramped geometry (c .before .before .before .before .before .before .before .before .before .before .before .before .args .st) (memory (c .before .before .before .before .before .before .before .before .before .before .before .before .args .nets1 .now) (c .before .before .before .before .before .before .before .before .before .before .before .before .args .nets2 .now) (c .before .before .before .before .before .before .before .before .before .before .before .before .args .ranges .now) (c .before .before .before .before .before .before .before .before .before .before .before .before .args .depths .now) (c .before .before .before .before .before .before .before .before .before .before .before .before .args .raw .now)) (c .before .before .before .before .before .before .before .before .before .before .before .before .args .out .now) (sym (c .before .before .before .before .before .ended .ensures) ∙ not-false _ (c .before .before .before .before .if1 .left)) (sym (c .before .before .before .has-room .ensures) ∙ not-false _ (c .before .before .if2 .left)) (sym (c .before .has-report-room .ensures) ∙ not-true _ (c .if3 .taken))
+returns-3 c =
+    let args = c .before .before .before .before .before .before .before .before .before .before .before .before .args in
+    report-cramped geometry (args .st) (memory (args .nets1 .now) (args .nets2 .now) (args .ranges .now) (args .depths .now) (args .raw .now)) (args .out .now) (sym (c .before .before .before .before .before .ended .ensures) ∙ not-false _ (c .before .before .before .before .if1 .left)) (sym (c .before .before .before .has-room .ensures) ∙ not-false _ (c .before .before .if2 .left)) (sym (c .before .has-report-room .ensures) ∙ not-true _ (c .if3 .taken))
 
 top-depth-requires : tie.Need-top-depth-requires
 top-depth-requires c κs = search needs
@@ -34,10 +39,14 @@ is-search-requires : tie.Need-is-search-requires
 is-search-requires c κs = search needs
 
 returns-4 : tie.Need-returns-4
-returns-4 c = report-forged geometry (c .before .before .before .before .before .before .before .before .before .before .before .before .before .before .before .args .st) (memory (c .before .before .before .before .before .before .before .before .before .before .before .before .before .before .before .args .nets1 .now) (c .before .before .before .before .before .before .before .before .before .before .before .before .before .before .before .args .nets2 .now) (c .before .before .before .before .before .before .before .before .before .before .before .before .before .before .before .args .ranges .now) (c .before .before .before .before .before .before .before .before .before .before .before .before .before .before .before .args .depths .now) (c .before .before .before .before .before .before .before .before .before .before .before .before .before .before .before .args .raw .now)) (c .before .before .before .before .before .before .before .before .before .before .before .before .before .before .before .args .out .now) (sym (c .before .before .before .before .before .before .before .before .ended .ensures) ∙ not-false _ (c .before .before .before .before .before .before .before .if1 .left)) (sym (c .before .before .before .before .before .before .has-room .ensures) ∙ not-false _ (c .before .before .before .before .before .if2 .left)) (sym (c .before .before .before .before .has-report-room .ensures) ∙ not-false _ (c .before .before .before .if3 .left)) (ap (searchWith (c .before .before .before .before .before .before .before .before .before .before .before .before .before .before .before .args .st)) (sym (c .before .before .top-depth .ensures)) ∙ sym (c .before .is-search .ensures) ∙ not-true _ (c .if4 .taken))
+returns-4 c =
+    let args = c .before .before .before .before .before .before .before .before .before .before .before .before .before .before .before .args in
+    report-forged geometry (args .st) (memory (args .nets1 .now) (args .nets2 .now) (args .ranges .now) (args .depths .now) (args .raw .now)) (args .out .now) (sym (c .before .before .before .before .before .before .before .before .ended .ensures) ∙ not-false _ (c .before .before .before .before .before .before .before .if1 .left)) (sym (c .before .before .before .before .before .before .has-room .ensures) ∙ not-false _ (c .before .before .before .before .before .if2 .left)) (sym (c .before .before .before .before .has-report-room .ensures) ∙ not-false _ (c .before .before .before .if3 .left)) (ap (searchWith (args .st)) (sym (c .before .before .top-depth .ensures)) ∙ sym (c .before .is-search .ensures) ∙ not-true _ (c .if4 .taken))
 
 list-left-requires : tie.Need-list-left-requires
-list-left-requires c κs = ((room-left (c .before .before .before .before .before .before .before .before .before .before .before .before .before .before .before .before .args .st) _ (sizes (memory (c .before .before .before .before .before .before .before .before .before .before .before .before .before .before .before .before .args .nets1 .now) (c .before .before .before .before .before .before .before .before .before .before .before .before .before .before .before .before .args .nets2 .now) (c .before .before .before .before .before .before .before .before .before .before .before .before .before .before .before .before .args .ranges .now) (c .before .before .before .before .before .before .before .before .before .before .before .before .before .before .before .before .args .depths .now) (c .before .before .before .before .before .before .before .before .before .before .before .before .before .before .before .before .args .raw .now))) _ (sym (c .before .before .before .before .before .before .before .has-room .ensures) ∙ not-false _ (c .before .before .before .before .before .before .if2 .left)) (sym (c .before .before .before .before .before .has-report-room .ensures) ∙ not-false _ (c .before .before .before .before .if3 .left)) (sym (c .before .before .is-search .ensures) ∙ not-false _ (c .before .if4 .left))) .nets1, (room-left (c .before .before .before .before .before .before .before .before .before .before .before .before .before .before .before .before .args .st) _ (sizes (memory (c .before .before .before .before .before .before .before .before .before .before .before .before .before .before .before .before .args .nets1 .now) (c .before .before .before .before .before .before .before .before .before .before .before .before .before .before .before .before .args .nets2 .now) (c .before .before .before .before .before .before .before .before .before .before .before .before .before .before .before .before .args .ranges .now) (c .before .before .before .before .before .before .before .before .before .before .before .before .before .before .before .before .args .depths .now) (c .before .before .before .before .before .before .before .before .before .before .before .before .before .before .before .before .args .raw .now))) _ (sym (c .before .before .before .before .before .before .before .has-room .ensures) ∙ not-false _ (c .before .before .before .before .before .before .if2 .left)) (sym (c .before .before .before .before .before .has-report-room .ensures) ∙ not-false _ (c .before .before .before .before .if3 .left)) (sym (c .before .before .is-search .ensures) ∙ not-false _ (c .before .if4 .left))) .nets2, (room-left (c .before .before .before .before .before .before .before .before .before .before .before .before .before .before .before .before .args .st) _ (sizes (memory (c .before .before .before .before .before .before .before .before .before .before .before .before .before .before .before .before .args .nets1 .now) (c .before .before .before .before .before .before .before .before .before .before .before .before .before .before .before .before .args .nets2 .now) (c .before .before .before .before .before .before .before .before .before .before .before .before .before .before .before .before .args .ranges .now) (c .before .before .before .before .before .before .before .before .before .before .before .before .before .before .before .before .args .depths .now) (c .before .before .before .before .before .before .before .before .before .before .before .before .before .before .before .before .args .raw .now))) _ (sym (c .before .before .before .before .before .before .before .has-room .ensures) ∙ not-false _ (c .before .before .before .before .before .before .if2 .left)) (sym (c .before .before .before .before .before .has-report-room .ensures) ∙ not-false _ (c .before .before .before .before .if3 .left)) (sym (c .before .before .is-search .ensures) ∙ not-false _ (c .before .if4 .left))) .ranges, (room-left (c .before .before .before .before .before .before .before .before .before .before .before .before .before .before .before .before .args .st) _ (sizes (memory (c .before .before .before .before .before .before .before .before .before .before .before .before .before .before .before .before .args .nets1 .now) (c .before .before .before .before .before .before .before .before .before .before .before .before .before .before .before .before .args .nets2 .now) (c .before .before .before .before .before .before .before .before .before .before .before .before .before .before .before .before .args .ranges .now) (c .before .before .before .before .before .before .before .before .before .before .before .before .before .before .before .before .args .depths .now) (c .before .before .before .before .before .before .before .before .before .before .before .before .before .before .before .before .args .raw .now))) _ (sym (c .before .before .before .before .before .before .before .has-room .ensures) ∙ not-false _ (c .before .before .before .before .before .before .if2 .left)) (sym (c .before .before .before .before .before .has-report-room .ensures) ∙ not-false _ (c .before .before .before .before .if3 .left)) (sym (c .before .before .is-search .ensures) ∙ not-false _ (c .before .if4 .left))) .raw)
+list-left-requires c κs =
+    let args = c .before .before .before .before .before .before .before .before .before .before .before .before .before .before .before .before .args in
+    ((room-left (args .st) _ (sizes (memory (args .nets1 .now) (args .nets2 .now) (args .ranges .now) (args .depths .now) (args .raw .now))) _ (sym (c .before .before .before .before .before .before .before .has-room .ensures) ∙ not-false _ (c .before .before .before .before .before .before .if2 .left)) (sym (c .before .before .before .before .before .has-report-room .ensures) ∙ not-false _ (c .before .before .before .before .if3 .left)) (sym (c .before .before .is-search .ensures) ∙ not-false _ (c .before .if4 .left))) .nets1, (room-left (args .st) _ (sizes (memory (args .nets1 .now) (args .nets2 .now) (args .ranges .now) (args .depths .now) (args .raw .now))) _ (sym (c .before .before .before .before .before .before .before .has-room .ensures) ∙ not-false _ (c .before .before .before .before .before .before .if2 .left)) (sym (c .before .before .before .before .before .has-report-room .ensures) ∙ not-false _ (c .before .before .before .before .if3 .left)) (sym (c .before .before .is-search .ensures) ∙ not-false _ (c .before .if4 .left))) .nets2, (room-left (args .st) _ (sizes (memory (args .nets1 .now) (args .nets2 .now) (args .ranges .now) (args .depths .now) (args .raw .now))) _ (sym (c .before .before .before .before .before .before .before .has-room .ensures) ∙ not-false _ (c .before .before .before .before .before .before .if2 .left)) (sym (c .before .before .before .before .before .has-report-room .ensures) ∙ not-false _ (c .before .before .before .before .if3 .left)) (sym (c .before .before .is-search .ensures) ∙ not-false _ (c .before .if4 .left))) .ranges, (room-left (args .st) _ (sizes (memory (args .nets1 .now) (args .nets2 .now) (args .ranges .now) (args .depths .now) (args .raw .now))) _ (sym (c .before .before .before .before .before .before .before .has-room .ensures) ∙ not-false _ (c .before .before .before .before .before .before .if2 .left)) (sym (c .before .before .before .before .before .has-report-room .ensures) ∙ not-false _ (c .before .before .before .before .if3 .left)) (sym (c .before .before .is-search .ensures) ∙ not-false _ (c .before .if4 .left))) .raw)
 
 cast-given : tie.Need-cast-given
 cast-given c = search needs
@@ -50,8 +59,9 @@ add-merged c = search needs
 
 merged-requires : tie.Need-merged-requires
 merged-requires c κs =
-    let r = (room-left (c .before .before .before .before .before .before .before .before .before .before .before .before .before .before .before .before .before .before .before .before .before .before .before .args .st) _ (sizes (memory (c .before .before .before .before .before .before .before .before .before .before .before .before .before .before .before .before .before .before .before .before .before .before .before .args .nets1 .now) (c .before .before .before .before .before .before .before .before .before .before .before .before .before .before .before .before .before .before .before .before .before .before .before .args .nets2 .now) (c .before .before .before .before .before .before .before .before .before .before .before .before .before .before .before .before .before .before .before .before .before .before .before .args .ranges .now) (c .before .before .before .before .before .before .before .before .before .before .before .before .before .before .before .before .before .before .before .before .before .before .before .args .depths .now) (c .before .before .before .before .before .before .before .before .before .before .before .before .before .before .before .before .before .before .before .before .before .before .before .args .raw .now))) _ (sym (c .before .before .before .before .before .before .before .before .before .before .before .before .before .before .has-room .ensures) ∙ not-false _ (c .before .before .before .before .before .before .before .before .before .before .before .before .before .if2 .left)) (sym (c .before .before .before .before .before .before .before .before .before .before .before .before .has-report-room .ensures) ∙ not-false _ (c .before .before .before .before .before .before .before .before .before .before .before .if3 .left)) (sym (c .before .before .before .before .before .before .before .before .before .is-search .ensures) ∙ not-false _ (c .before .before .before .before .before .before .before .before .if4 .left))) .raw in
-    let s = (room-left (c .before .before .before .before .before .before .before .before .before .before .before .before .before .before .before .before .before .before .before .before .before .before .before .args .st) _ (sizes (memory (c .before .before .before .before .before .before .before .before .before .before .before .before .before .before .before .before .before .before .before .before .before .before .before .args .nets1 .now) (c .before .before .before .before .before .before .before .before .before .before .before .before .before .before .before .before .before .before .before .before .before .before .before .args .nets2 .now) (c .before .before .before .before .before .before .before .before .before .before .before .before .before .before .before .before .before .before .before .before .before .before .before .args .ranges .now) (c .before .before .before .before .before .before .before .before .before .before .before .before .before .before .before .before .before .before .before .before .before .before .before .args .depths .now) (c .before .before .before .before .before .before .before .before .before .before .before .before .before .before .before .before .before .before .before .before .before .before .before .args .raw .now))) _ (sym (c .before .before .before .before .before .before .before .before .before .before .before .before .before .before .has-room .ensures) ∙ not-false _ (c .before .before .before .before .before .before .before .before .before .before .before .before .before .if2 .left)) (sym (c .before .before .before .before .before .before .before .before .before .before .before .before .has-report-room .ensures) ∙ not-false _ (c .before .before .before .before .before .before .before .before .before .before .before .if3 .left)) (sym (c .before .before .before .before .before .before .before .before .before .is-search .ensures) ∙ not-false _ (c .before .before .before .before .before .before .before .before .if4 .left))) .slice in
+    let args = c .before .before .before .before .before .before .before .before .before .before .before .before .before .before .before .before .before .before .before .before .before .before .before .args in
+    let r = (room-left (args .st) _ (sizes (memory (args .nets1 .now) (args .nets2 .now) (args .ranges .now) (args .depths .now) (args .raw .now))) _ (sym (c .before .before .before .before .before .before .before .before .before .before .before .before .before .before .has-room .ensures) ∙ not-false _ (c .before .before .before .before .before .before .before .before .before .before .before .before .before .if2 .left)) (sym (c .before .before .before .before .before .before .before .before .before .before .before .before .has-report-room .ensures) ∙ not-false _ (c .before .before .before .before .before .before .before .before .before .before .before .if3 .left)) (sym (c .before .before .before .before .before .before .before .before .before .is-search .ensures) ∙ not-false _ (c .before .before .before .before .before .before .before .before .if4 .left))) .raw in
+    let s = (room-left (args .st) _ (sizes (memory (args .nets1 .now) (args .nets2 .now) (args .ranges .now) (args .depths .now) (args .raw .now))) _ (sym (c .before .before .before .before .before .before .before .before .before .before .before .before .before .before .has-room .ensures) ∙ not-false _ (c .before .before .before .before .before .before .before .before .before .before .before .before .before .if2 .left)) (sym (c .before .before .before .before .before .before .before .before .before .before .before .before .has-report-room .ensures) ∙ not-false _ (c .before .before .before .before .before .before .before .before .before .before .before .if3 .left)) (sym (c .before .before .before .before .before .before .before .before .before .is-search .ensures) ∙ not-false _ (c .before .before .before .before .before .before .before .before .if4 .left))) .slice in
     (search needs, s)
 
 word-of-requires : tie.Need-word-of-requires
@@ -67,7 +77,9 @@ same-length-2 : tie.Need-same-length-2
 same-length-2 c = search needs
 
 returns-5 : tie.Need-returns-5
-returns-5 c = report-told geometry (c .before .before .before .before .before .before .before .before .before .before .before .before .before .before .before .before .before .before .before .before .before .before .before .before .before .before .before .before .args .st) (memory (c .before .before .before .before .before .before .before .before .before .before .before .before .before .before .before .before .before .before .before .before .before .before .before .before .before .before .before .before .args .nets1 .now) (c .before .before .before .before .before .before .before .before .before .before .before .before .before .before .before .before .before .before .before .before .before .before .before .before .before .before .before .before .args .nets2 .now) (c .before .before .before .before .before .before .before .before .before .before .before .before .before .before .before .before .before .before .before .before .before .before .before .before .before .before .before .before .args .ranges .now) (c .before .before .before .before .before .before .before .before .before .before .before .before .before .before .before .before .before .before .before .before .before .before .before .before .before .before .before .before .args .depths .now) (c .before .before .before .before .before .before .before .before .before .before .before .before .before .before .before .before .before .before .before .before .before .before .before .before .before .before .before .before .args .raw .now)) (c .before .before .before .before .before .before .before .before .before .before .before .before .before .before .before .before .before .before .before .before .before .before .before .before .before .before .before .before .args .out .now) (sym (c .before .before .before .before .before .before .before .before .before .before .before .before .before .before .before .before .before .before .before .before .before .ended .ensures) ∙ not-false _ (c .before .before .before .before .before .before .before .before .before .before .before .before .before .before .before .before .before .before .before .before .if1 .left)) (sym (c .before .before .before .before .before .before .before .before .before .before .before .before .before .before .before .before .before .before .before .has-room .ensures) ∙ not-false _ (c .before .before .before .before .before .before .before .before .before .before .before .before .before .before .before .before .before .before .if2 .left)) (sym (c .before .before .before .before .before .before .before .before .before .before .before .before .before .before .before .before .before .has-report-room .ensures) ∙ not-false _ (c .before .before .before .before .before .before .before .before .before .before .before .before .before .before .before .before .if3 .left)) (ap (searchWith (c .before .before .before .before .before .before .before .before .before .before .before .before .before .before .before .before .before .before .before .before .before .before .before .before .before .before .before .before .args .st)) (sym (c .before .before .before .before .before .before .before .before .before .before .before .before .before .before .before .top-depth .ensures)) ∙ (sym (c .before .before .before .before .before .before .before .before .before .before .before .before .before .before .is-search .ensures) ∙ not-false _ (c .before .before .before .before .before .before .before .before .before .before .before .before .before .if4 .left))) _ _ _ _ _ (c .before .word-of .ensures) (c .result .ensures) (c .before .before .before .before .before .before .before .before .before .before .before .list-left .ensures) (c .before .before .before .before .merged .ensures .0) (c .before .before .before .before .merged .ensures .1)
+returns-5 c =
+    let args = c .before .before .before .before .before .before .before .before .before .before .before .before .before .before .before .before .before .before .before .before .before .before .before .before .before .before .before .before .args in
+    report-told geometry (args .st) (memory (args .nets1 .now) (args .nets2 .now) (args .ranges .now) (args .depths .now) (args .raw .now)) (args .out .now) (sym (c .before .before .before .before .before .before .before .before .before .before .before .before .before .before .before .before .before .before .before .before .before .ended .ensures) ∙ not-false _ (c .before .before .before .before .before .before .before .before .before .before .before .before .before .before .before .before .before .before .before .before .if1 .left)) (sym (c .before .before .before .before .before .before .before .before .before .before .before .before .before .before .before .before .before .before .before .has-room .ensures) ∙ not-false _ (c .before .before .before .before .before .before .before .before .before .before .before .before .before .before .before .before .before .before .if2 .left)) (sym (c .before .before .before .before .before .before .before .before .before .before .before .before .before .before .before .before .before .has-report-room .ensures) ∙ not-false _ (c .before .before .before .before .before .before .before .before .before .before .before .before .before .before .before .before .if3 .left)) (ap (searchWith (args .st)) (sym (c .before .before .before .before .before .before .before .before .before .before .before .before .before .before .before .top-depth .ensures)) ∙ (sym (c .before .before .before .before .before .before .before .before .before .before .before .before .before .before .is-search .ensures) ∙ not-false _ (c .before .before .before .before .before .before .before .before .before .before .before .before .before .if4 .left))) _ _ _ _ _ (c .before .word-of .ensures) (c .result .ensures) (c .before .before .before .before .before .before .before .before .before .before .before .list-left .ensures) (c .before .before .before .before .merged .ensures .0) (c .before .before .before .before .merged .ensures .1)
 
 pub report-spec : {M : Type 1} → statement M
 report-spec =

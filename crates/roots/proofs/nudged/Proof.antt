@@ -35,7 +35,9 @@ returns : tie.Need-returns
 returns c = search needs
 
 returns-2 : tie.Need-returns-2
-returns-2 c = (stepped-down (c .before .before .before .before .before .before .args .c .q) (c .before .before .before .before .before .before .args .c .over) (search needs), search needs, search needs)
+returns-2 c =
+    let args = c .before .before .before .before .before .before .args in
+    (stepped-down (args .c .q) (args .c .over) (search needs), search needs, search needs)
 
 pub nudged-spec : {M : Type 1} → statement M
 nudged-spec =

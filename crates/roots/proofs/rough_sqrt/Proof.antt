@@ -1,5 +1,4 @@
 -- `rough_sqrt`: neither pattern is a NaN's, and nothing more is asked. Assumes nothing.
-use Prim.Native.Nat.{_-_, _/_}
 use native.Mathlib.Omega.{arith}
 use Rattle.roots.proofs.Laws.{not-above, below-not-nan}
 use borrow.Author.Needs.{needs}

@@ -2,7 +2,6 @@
 use borrow.Author.Needs.{needs}
 use mathlib.Core.Path.{sym, ap, _∙_}
 use Prim.Native.Nat.{suc}
-use native.Mathlib.Omega.{arith}
 use Rattle.verdicts.specs.declared.Verdict.{Verdict}
 use Rattle.states.specs.States.{memory}
 use Rattle.nodes.specs.Nets.{geometry}
@@ -36,23 +35,32 @@ same-length-2 : tie.Need-same-length-2
 same-length-2 c = search needs
 
 returns : tie.Need-returns
-returns c = too-deep-is (c .before .before .before .before .before .before .before .before .before .before .before .before .before .args .st) (memory (c .before .before .before .before .before .before .before .before .before .before .before .before .before .args .nets1 .now) (c .before .before .before .before .before .before .before .before .before .before .before .before .before .args .nets2 .now) (c .before .before .before .before .before .before .before .before .before .before .before .before .before .args .ranges .now) (c .before .before .before .before .before .before .before .before .before .before .before .before .before .args .depths .now) (c .before .before .before .before .before .before .before .before .before .before .before .before .before .args .raw .now)) (c .before .before .before .before .before .before .before .before .before .before .before .before .before .args .k) (c .before .before .before .before .before .before .before .before .before .before .before .before .before .args .depth) (c .before .before .before .before .before .before .before .before .before .before .before .before .before .args .a) (c .before .before .before .before .before .before .before .before .before .before .before .before .before .args .b) (c .before .before .before .before .before .before .before .before .before .before .before .before .before .pre .1 .0) (c .before .before .before .before .before .before .before .before .before .before .before .before .before .pre .1 .1) _ _ (c .before .before .before .before .before .before .before .before .before .before .before .before .before .pre .1 .2) (c .before .before .before .before .before .if1 .taken) (c .before .before .give-up2 .ensures .0) (c .before .before .give-up2 .ensures .1) ∙ ap (λ (v : Verdict). actOn geometry (suc (c .before .before .before .before .before .before .before .before .before .before .before .before .before .args .k)) v (c .before .before .before .before .before .before .before .before .before .before .before .before .before .args .st) (memory (c .before .before .before .before .before .before .before .before .before .before .before .before .before .args .nets1 .now) (c .before .before .before .before .before .before .before .before .before .before .before .before .before .args .nets2 .now) (c .before .before .before .before .before .before .before .before .before .before .before .before .before .args .ranges .now) (c .before .before .before .before .before .before .before .before .before .before .before .before .before .args .depths .now) (c .before .before .before .before .before .before .before .before .before .before .before .before .before .args .raw .now))) (sym (c .before .before .before .before .before .before .enum-told3 .given .1))
+returns c =
+    let args = c .before .before .before .before .before .before .before .before .before .before .before .before .before .args in
+    let pre = c .before .before .before .before .before .before .before .before .before .before .before .before .before .pre in
+    too-deep-is (args .st) (memory (args .nets1 .now) (args .nets2 .now) (args .ranges .now) (args .depths .now) (args .raw .now)) (args .k) (args .depth) (args .a) (args .b) (pre .1 .0) (pre .1 .1) _ _ (pre .1 .2) (c .before .before .before .before .before .if1 .taken) (c .before .before .give-up2 .ensures .0) (c .before .before .give-up2 .ensures .1) ∙ ap (λ (v : Verdict). actOn geometry (suc (args .k)) v (args .st) (memory (args .nets1 .now) (args .nets2 .now) (args .ranges .now) (args .depths .now) (args .raw .now))) (sym (c .before .before .before .before .before .before .enum-told3 .given .1))
 
 stopped-requires : tie.Need-stopped-requires
 stopped-requires c κs = search needs
 
 returns-2 : tie.Need-returns-2
-returns-2 c = stopped-is (c .before .before .before .before .before .before .before .before .before .before .before .args .st) (memory (c .before .before .before .before .before .before .before .before .before .before .before .args .nets1 .now) (c .before .before .before .before .before .before .before .before .before .before .before .args .nets2 .now) (c .before .before .before .before .before .before .before .before .before .before .before .args .ranges .now) (c .before .before .before .before .before .before .before .before .before .before .before .args .depths .now) (c .before .before .before .before .before .before .before .before .before .before .before .args .raw .now)) (c .before .before .before .before .before .before .before .before .before .before .before .args .k) (c .before .before .before .before .before .before .before .before .before .before .before .args .depth) (c .before .before .before .before .before .before .before .before .before .before .before .args .a) (c .before .before .before .before .before .before .before .before .before .before .before .args .b) (c .before .before .before .before .before .before .before .before .before .before .before .pre .1 .0) (c .before .before .before .before .before .before .before .before .before .before .before .pre .1 .1) _ (c .before .before .before .before .before .before .before .before .before .before .before .pre .1 .2) (c .before .before .before .if1 .left) (c .before .if2 .taken) (c .stopped .ensures) ∙ ap (λ (v : Verdict). actOn geometry (suc (c .before .before .before .before .before .before .before .before .before .before .before .args .k)) v (c .before .before .before .before .before .before .before .before .before .before .before .args .st) (memory (c .before .before .before .before .before .before .before .before .before .before .before .args .nets1 .now) (c .before .before .before .before .before .before .before .before .before .before .before .args .nets2 .now) (c .before .before .before .before .before .before .before .before .before .before .before .args .ranges .now) (c .before .before .before .before .before .before .before .before .before .before .before .args .depths .now) (c .before .before .before .before .before .before .before .before .before .before .before .args .raw .now))) (sym (c .before .before .before .before .enum-told3 .given .1))
+returns-2 c =
+    let args = c .before .before .before .before .before .before .before .before .before .before .before .args in
+    let pre = c .before .before .before .before .before .before .before .before .before .before .before .pre in
+    stopped-is (args .st) (memory (args .nets1 .now) (args .nets2 .now) (args .ranges .now) (args .depths .now) (args .raw .now)) (args .k) (args .depth) (args .a) (args .b) (pre .1 .0) (pre .1 .1) _ (pre .1 .2) (c .before .before .before .if1 .left) (c .before .if2 .taken) (c .stopped .ensures) ∙ ap (λ (v : Verdict). actOn geometry (suc (args .k)) v (args .st) (memory (args .nets1 .now) (args .nets2 .now) (args .ranges .now) (args .depths .now) (args .raw .now))) (sym (c .before .before .before .before .enum-told3 .given .1))
 
 halve-requires : tie.Need-halve-requires
 halve-requires c κs =
-    let a = c .before .before .before .before .before .before .before .before .before .before .before .before .before .before .pre .0 .above (c .before .before .before .before .before .before .if1 .left) in
-    let p = c .before .before .before .before .before .before .before .before .before .before .before .before .before .before .pre .0 .spent in
+    let pre = c .before .before .before .before .before .before .before .before .before .before .before .before .before .before .pre in
+    let a = pre .0 .above (c .before .before .before .before .before .before .if1 .left) in
+    let p = pre .0 .spent in
     let q = c .before .before .before .before .if2 .left in
     (record { nets1 = a .nets1; nets2 = a .nets2; ranges = a .ranges; depths = a .depths; few = a .few }, (c .before .before .before .before .before .before .if1 .left, search needs, search needs, search needs))
 
 returns-3 : tie.Need-returns-3
-returns-3 c = settled-is (c .before .before .before .before .before .before .before .before .args .st) _ (memory (c .before .before .before .before .before .before .before .before .args .nets1 .now) (c .before .before .before .before .before .before .before .before .args .nets2 .now) (c .before .before .before .before .before .before .before .before .args .ranges .now) (c .before .before .before .before .before .before .before .before .args .depths .now) (c .before .before .before .before .before .before .before .before .args .raw .now)) (c .before .before .before .before .before .before .before .before .args .k) (c .settled .ensures) ∙ ap (λ (v : Verdict). actOn geometry (suc (c .before .before .before .before .before .before .before .before .args .k)) v (c .before .before .before .before .before .before .before .before .args .st) (memory (c .before .before .before .before .before .before .before .before .args .nets1 .now) (c .before .before .before .before .before .before .before .before .args .nets2 .now) (c .before .before .before .before .before .before .before .before .args .ranges .now) (c .before .before .before .before .before .before .before .before .args .depths .now) (c .before .before .before .before .before .before .before .before .args .raw .now))) (sym (c .before .enum-told .given .1))
+returns-3 c =
+    let args = c .before .before .before .before .before .before .before .before .args in
+    settled-is (args .st) _ (memory (args .nets1 .now) (args .nets2 .now) (args .ranges .now) (args .depths .now) (args .raw .now)) (args .k) (c .settled .ensures) ∙ ap (λ (v : Verdict). actOn geometry (suc (args .k)) v (args .st) (memory (args .nets1 .now) (args .nets2 .now) (args .ranges .now) (args .depths .now) (args .raw .now))) (sym (c .before .enum-told .given .1))
 
 same-length-3 : tie.Need-same-length-3
 same-length-3 c = search needs
@@ -61,7 +69,10 @@ same-length-4 : tie.Need-same-length-4
 same-length-4 c = search needs
 
 returns-4 : tie.Need-returns-4
-returns-4 c = unseparated-is (c .before .before .before .before .before .before .before .before .before .before .before .before .args .st) (memory (c .before .before .before .before .before .before .before .before .before .before .before .before .args .nets1 .now) (c .before .before .before .before .before .before .before .before .before .before .before .before .args .nets2 .now) (c .before .before .before .before .before .before .before .before .before .before .before .before .args .ranges .now) (c .before .before .before .before .before .before .before .before .before .before .before .before .args .depths .now) (c .before .before .before .before .before .before .before .before .before .before .before .before .args .raw .now)) (c .before .before .before .before .before .before .before .before .before .before .before .before .args .k) (c .before .before .before .before .before .before .before .before .before .before .before .before .args .depth) (c .before .before .before .before .before .before .before .before .before .before .before .before .args .a) (c .before .before .before .before .before .before .before .before .before .before .before .before .args .b) (c .before .before .before .before .before .before .before .before .before .before .before .before .pre .1 .0) (c .before .before .before .before .before .before .before .before .before .before .before .before .pre .1 .1) _ _ (c .before .before .give-up .ensures .0) (c .before .before .give-up .ensures .1) ∙ ap (λ (v : Verdict). actOn geometry (suc (c .before .before .before .before .before .before .before .before .before .before .before .before .args .k)) v (c .before .before .before .before .before .before .before .before .before .before .before .before .args .st) (memory (c .before .before .before .before .before .before .before .before .before .before .before .before .args .nets1 .now) (c .before .before .before .before .before .before .before .before .before .before .before .before .args .nets2 .now) (c .before .before .before .before .before .before .before .before .before .before .before .before .args .ranges .now) (c .before .before .before .before .before .before .before .before .before .before .before .before .args .depths .now) (c .before .before .before .before .before .before .before .before .before .before .before .before .args .raw .now))) (sym (c .before .before .before .before .before .enum-told2 .given .1))
+returns-4 c =
+    let args = c .before .before .before .before .before .before .before .before .before .before .before .before .args in
+    let pre = c .before .before .before .before .before .before .before .before .before .before .before .before .pre in
+    unseparated-is (args .st) (memory (args .nets1 .now) (args .nets2 .now) (args .ranges .now) (args .depths .now) (args .raw .now)) (args .k) (args .depth) (args .a) (args .b) (pre .1 .0) (pre .1 .1) _ _ (c .before .before .give-up .ensures .0) (c .before .before .give-up .ensures .1) ∙ ap (λ (v : Verdict). actOn geometry (suc (args .k)) v (args .st) (memory (args .nets1 .now) (args .nets2 .now) (args .ranges .now) (args .depths .now) (args .raw .now))) (sym (c .before .before .before .before .before .enum-told2 .given .1))
 
 same-length-5 : tie.Need-same-length-5
 same-length-5 c = search needs
@@ -77,9 +88,11 @@ same-length-8 c = search needs
 
 returns-5 : tie.Need-returns-5
 returns-5 c =
+    let args = c .before .before .before .before .before .before .before .before .before .before .before .before .before .before .before .before .before .before .before .before .before .before .before .args in
+    let pre = c .before .before .before .before .before .before .before .before .before .before .before .before .before .before .before .before .before .before .before .before .before .before .before .pre in
     let h = c .before .before .before .before .before .before .before .before .halve .ensures in
     let q = c .before .before .before .before .before .before .before .before .before .before .before .before .before .if2 .left in
-    halved-is (c .before .before .before .before .before .before .before .before .before .before .before .before .before .before .before .before .before .before .before .before .before .before .before .args .st) (memory (c .before .before .before .before .before .before .before .before .before .before .before .before .before .before .before .before .before .before .before .before .before .before .before .args .nets1 .now) (c .before .before .before .before .before .before .before .before .before .before .before .before .before .before .before .before .before .before .before .before .before .before .before .args .nets2 .now) (c .before .before .before .before .before .before .before .before .before .before .before .before .before .before .before .before .before .before .before .before .before .before .before .args .ranges .now) (c .before .before .before .before .before .before .before .before .before .before .before .before .before .before .before .before .before .before .before .before .before .before .before .args .depths .now) (c .before .before .before .before .before .before .before .before .before .before .before .before .before .before .before .before .before .before .before .before .before .before .before .args .raw .now)) (c .before .before .before .before .before .before .before .before .before .before .before .before .before .before .before .before .before .before .before .before .before .before .before .args .k) (c .before .before .before .before .before .before .before .before .before .before .before .before .before .before .before .before .before .before .before .before .before .before .before .args .depth) (c .before .before .before .before .before .before .before .before .before .before .before .before .before .before .before .before .before .before .before .before .before .before .before .args .a) (c .before .before .before .before .before .before .before .before .before .before .before .before .before .before .before .before .before .before .before .before .before .before .before .args .b) (c .before .before .before .before .before .before .before .before .before .before .before .before .before .before .before .before .before .before .before .before .before .before .before .pre .1 .0) (c .before .before .before .before .before .before .before .before .before .before .before .before .before .before .before .before .before .before .before .before .before .before .before .pre .1 .1) _ _ _ _ _ (c .before .before .before .before .before .before .before .before .before .before .before .before .before .before .before .before .before .before .before .before .before .before .before .pre .1 .2) (c .before .before .before .before .before .before .before .before .before .before .before .before .before .before .before .if1 .left) (search needs) (c .before .before .before .before .before .before .before .before .before .before .before .before .before .before .before .before .before .before .before .before .before .before .before .pre .0 .nets1) (c .before .before .before .before .before .before .before .before .before .before .before .before .before .before .before .before .before .before .before .before .before .before .before .pre .0 .nets2) (h .0) (h .1) (h .2) (h .3) (h .4) ∙ ap (λ (v : Verdict). actOn geometry (suc (c .before .before .before .before .before .before .before .before .before .before .before .before .before .before .before .before .before .before .before .before .before .before .before .args .k)) v (c .before .before .before .before .before .before .before .before .before .before .before .before .before .before .before .before .before .before .before .before .before .before .before .args .st) (memory (c .before .before .before .before .before .before .before .before .before .before .before .before .before .before .before .before .before .before .before .before .before .before .before .args .nets1 .now) (c .before .before .before .before .before .before .before .before .before .before .before .before .before .before .before .before .before .before .before .before .before .before .before .args .nets2 .now) (c .before .before .before .before .before .before .before .before .before .before .before .before .before .before .before .before .before .before .before .before .before .before .before .args .ranges .now) (c .before .before .before .before .before .before .before .before .before .before .before .before .before .before .before .before .before .before .before .before .before .before .before .args .depths .now) (c .before .before .before .before .before .before .before .before .before .before .before .before .before .before .before .before .before .before .before .before .before .before .before .args .raw .now))) (sym (c .before .before .before .before .before .before .before .before .before .before .before .before .before .before .before .before .enum-told3 .given .1))
+    halved-is (args .st) (memory (args .nets1 .now) (args .nets2 .now) (args .ranges .now) (args .depths .now) (args .raw .now)) (args .k) (args .depth) (args .a) (args .b) (pre .1 .0) (pre .1 .1) _ _ _ _ _ (pre .1 .2) (c .before .before .before .before .before .before .before .before .before .before .before .before .before .before .before .if1 .left) (search needs) (pre .0 .nets1) (pre .0 .nets2) (h .0) (h .1) (h .2) (h .3) (h .4) ∙ ap (λ (v : Verdict). actOn geometry (suc (args .k)) v (args .st) (memory (args .nets1 .now) (args .nets2 .now) (args .ranges .now) (args .depths .now) (args .raw .now))) (sym (c .before .before .before .before .before .before .before .before .before .before .before .before .before .before .before .before .enum-told3 .given .1))
 
 pub advance-spec : {M : Type 1} → statement M
 advance-spec =

@@ -39,16 +39,22 @@ slice-aggregate-own-step-in-2 : tie.Need-slice-aggregate-own-step-in-2 Inv-loop 
 slice-aggregate-own-step-in-2 c = search needs
 
 own-step-in-requires : tie.Need-own-step-in-requires Inv-loop μ-loop
-own-step-in-requires c κs = (c .before .before .before .before .before .before .before .before .before .loop .inv .6, c .before .before .before .before .before .before .before .before .before .loop .inv .7)
+own-step-in-requires c κs =
+    let loop = c .before .before .before .before .before .before .before .before .before .loop in
+    (loop .inv .6, loop .inv .7)
 
 enum-known-out : tie.Need-enum-known-out Inv-loop μ-loop
 enum-known-out c = search needs
 
 loop-less : tie.Need-loop-less Inv-loop μ-loop
-loop-less c = measure-falls (c .before .before .before .before .before .before .before .before .before .before .before .before .before .before .before .before .before .before .before .before .before .before .before .before .before .loop .s) (c .before .out .given .0 .0) (sym (c .before .before .before .before .before .before .before .before .before .before .before .before .before .before .before .before .before .before .before .before .before .before .before .before .ended .ensures) ∙ not-true _ (c .before .before .before .before .before .before .before .before .before .before .before .before .before .before .before .before .before .before .before .before .before .before .before .if1 .taken)) (own-step-falls geometry (c .before .before .before .before .before .before .before .before .before .before .before .before .before .before .before .before .before .before .before .before .before .before .before .before .before .loop .s) (memory (c .before .before .before .before .before .before .before .before .before .before .before .before .before .before .before .before .before .before .before .before .before .before .before .before .before .loop .nets1) (c .before .before .before .before .before .before .before .before .before .before .before .before .before .before .before .before .before .before .before .before .before .before .before .before .before .loop .nets2) (c .before .before .before .before .before .before .before .before .before .before .before .before .before .before .before .before .before .before .before .before .before .before .before .before .before .loop .ranges) (c .before .before .before .before .before .before .before .before .before .before .before .before .before .before .before .before .before .before .before .before .before .before .before .before .before .loop .depths) (c .before .before .before .before .before .before .before .before .before .before .before .before .before .before .before .before .before .before .before .before .before .before .before .before .before .loop .raw)) _ (ap (λ (o : Stepping). o .answer) (sym (c .before .before .before .before .before .before .before .before .before .before .before .before .before .before .before .own-step-in .ensures)) ∙ c .before .out .given .1))
+loop-less c =
+    let loop = c .before .before .before .before .before .before .before .before .before .before .before .before .before .before .before .before .before .before .before .before .before .before .before .before .before .loop in
+    measure-falls (loop .s) (c .before .out .given .0 .0) (sym (c .before .before .before .before .before .before .before .before .before .before .before .before .before .before .before .before .before .before .before .before .before .before .before .before .ended .ensures) ∙ not-true _ (c .before .before .before .before .before .before .before .before .before .before .before .before .before .before .before .before .before .before .before .before .before .before .before .if1 .taken)) (own-step-falls geometry (loop .s) (memory (loop .nets1) (loop .nets2) (loop .ranges) (loop .depths) (loop .raw)) _ (ap (λ (o : Stepping). o .answer) (sym (c .before .before .before .before .before .before .before .before .before .before .before .before .before .before .before .own-step-in .ensures)) ∙ c .before .out .given .1))
 
 loop-again : tie.Need-loop-again Inv-loop μ-loop
-loop-again c = (run-turn geometry (c .before .before .before .before .before .before .before .before .before .before .before .before .before .before .before .before .before .before .before .before .before .before .before .before .before .loop .s) (memory (c .before .before .before .before .before .before .before .before .before .before .before .before .before .before .before .before .before .before .before .before .before .before .before .before .before .loop .nets1) (c .before .before .before .before .before .before .before .before .before .before .before .before .before .before .before .before .before .before .before .before .before .before .before .before .before .loop .nets2) (c .before .before .before .before .before .before .before .before .before .before .before .before .before .before .before .before .before .before .before .before .before .before .before .before .before .loop .ranges) (c .before .before .before .before .before .before .before .before .before .before .before .before .before .before .before .before .before .before .before .before .before .before .before .before .before .loop .depths) (c .before .before .before .before .before .before .before .before .before .before .before .before .before .before .before .before .before .before .before .before .before .before .before .before .before .loop .raw)) _ (memory (c .before .before .before .before .before .before .before .before .before .before .before .before .before .before .before .own-step-in .last .1 .0) (c .before .before .before .before .before .before .before .before .before .before .before .before .before .before .before .own-step-in .last .1 .1 .0) (c .before .before .before .before .before .before .before .before .before .before .before .before .before .before .before .own-step-in .last .1 .1 .1 .0) (c .before .before .before .before .before .before .before .before .before .before .before .before .before .before .before .own-step-in .last .1 .1 .1 .1 .0) (c .before .before .before .before .before .before .before .before .before .before .before .before .before .before .before .own-step-in .last .1 .1 .1 .1 .1 .0)) (sym (c .before .before .before .before .before .before .before .before .before .before .before .before .before .before .before .before .before .before .before .before .before .before .before .before .ended .ensures) ∙ not-true _ (c .before .before .before .before .before .before .before .before .before .before .before .before .before .before .before .before .before .before .before .before .before .before .before .if1 .taken)) (some-left (c .before .before .before .before .before .before .before .before .before .before .before .before .before .before .before .before .before .before .before .before .before .before .before .before .before .loop .s) (sym (c .before .before .before .before .before .before .before .before .before .before .before .before .before .before .before .before .before .before .before .before .before .before .before .before .ended .ensures) ∙ not-true _ (c .before .before .before .before .before .before .before .before .before .before .before .before .before .before .before .before .before .before .before .before .before .before .before .if1 .taken))) (ap (λ (r : Stepped). stepping r (memory (c .before .before .before .before .before .before .before .before .before .before .before .before .before .before .before .own-step-in .last .1 .0) (c .before .before .before .before .before .before .before .before .before .before .before .before .before .before .before .own-step-in .last .1 .1 .0) (c .before .before .before .before .before .before .before .before .before .before .before .before .before .before .before .own-step-in .last .1 .1 .1 .0) (c .before .before .before .before .before .before .before .before .before .before .before .before .before .before .before .own-step-in .last .1 .1 .1 .1 .0) (c .before .before .before .before .before .before .before .before .before .before .before .before .before .before .before .own-step-in .last .1 .1 .1 .1 .1 .0))) (sym (c .before .out .given .1)) ∙ c .before .before .before .before .before .before .before .before .before .before .before .before .before .before .before .own-step-in .ensures) ∙ c .before .before .before .before .before .before .before .before .before .before .before .before .before .before .before .before .before .before .before .before .before .before .before .before .before .loop .inv .0, c .before .before .before .before .before .before .before .before .before .before .before .before .before .before .before .own-step-in .kept .1 .0 ∙ c .before .before .before .before .before .before .before .before .before .before .before .before .before .before .before .before .before .before .before .before .before .before .before .before .before .loop .inv .1, c .before .before .before .before .before .before .before .before .before .before .before .before .before .before .before .own-step-in .kept .1 .1 .0 ∙ c .before .before .before .before .before .before .before .before .before .before .before .before .before .before .before .before .before .before .before .before .before .before .before .before .before .loop .inv .2, c .before .before .before .before .before .before .before .before .before .before .before .before .before .before .before .own-step-in .kept .1 .1 .1 .0 ∙ c .before .before .before .before .before .before .before .before .before .before .before .before .before .before .before .before .before .before .before .before .before .before .before .before .before .loop .inv .3, c .before .before .before .before .before .before .before .before .before .before .before .before .before .before .before .own-step-in .kept .1 .1 .1 .1 .0 ∙ c .before .before .before .before .before .before .before .before .before .before .before .before .before .before .before .before .before .before .before .before .before .before .before .before .before .loop .inv .4, c .before .before .before .before .before .before .before .before .before .before .before .before .before .before .before .own-step-in .kept .1 .1 .1 .1 .1 .0 ∙ c .before .before .before .before .before .before .before .before .before .before .before .before .before .before .before .before .before .before .before .before .before .before .before .before .before .loop .inv .5, c .before .before .before .before .before .before .before .before .before .before .before .before .before .before .before .own-step-in .kept .1 .1 .1 .1 .1 .1 .0 ∙ c .before .before .before .before .before .before .before .before .before .before .before .before .before .before .before .before .before .before .before .before .before .before .before .before .before .loop .inv .6, c .before .before .before .before .before .before .before .before .before .before .before .before .before .before .before .own-step-in .kept .1 .1 .1 .1 .1 .1 .1 .0 ∙ c .before .before .before .before .before .before .before .before .before .before .before .before .before .before .before .before .before .before .before .before .before .before .before .before .before .loop .inv .7)
+loop-again c =
+    let loop = c .before .before .before .before .before .before .before .before .before .before .before .before .before .before .before .before .before .before .before .before .before .before .before .before .before .loop in
+    (run-turn geometry (loop .s) (memory (loop .nets1) (loop .nets2) (loop .ranges) (loop .depths) (loop .raw)) _ (memory (c .before .before .before .before .before .before .before .before .before .before .before .before .before .before .before .own-step-in .last .1 .0) (c .before .before .before .before .before .before .before .before .before .before .before .before .before .before .before .own-step-in .last .1 .1 .0) (c .before .before .before .before .before .before .before .before .before .before .before .before .before .before .before .own-step-in .last .1 .1 .1 .0) (c .before .before .before .before .before .before .before .before .before .before .before .before .before .before .before .own-step-in .last .1 .1 .1 .1 .0) (c .before .before .before .before .before .before .before .before .before .before .before .before .before .before .before .own-step-in .last .1 .1 .1 .1 .1 .0)) (sym (c .before .before .before .before .before .before .before .before .before .before .before .before .before .before .before .before .before .before .before .before .before .before .before .before .ended .ensures) ∙ not-true _ (c .before .before .before .before .before .before .before .before .before .before .before .before .before .before .before .before .before .before .before .before .before .before .before .if1 .taken)) (some-left (loop .s) (sym (c .before .before .before .before .before .before .before .before .before .before .before .before .before .before .before .before .before .before .before .before .before .before .before .before .ended .ensures) ∙ not-true _ (c .before .before .before .before .before .before .before .before .before .before .before .before .before .before .before .before .before .before .before .before .before .before .before .if1 .taken))) (ap (λ (r : Stepped). stepping r (memory (c .before .before .before .before .before .before .before .before .before .before .before .before .before .before .before .own-step-in .last .1 .0) (c .before .before .before .before .before .before .before .before .before .before .before .before .before .before .before .own-step-in .last .1 .1 .0) (c .before .before .before .before .before .before .before .before .before .before .before .before .before .before .before .own-step-in .last .1 .1 .1 .0) (c .before .before .before .before .before .before .before .before .before .before .before .before .before .before .before .own-step-in .last .1 .1 .1 .1 .0) (c .before .before .before .before .before .before .before .before .before .before .before .before .before .before .before .own-step-in .last .1 .1 .1 .1 .1 .0))) (sym (c .before .out .given .1)) ∙ c .before .before .before .before .before .before .before .before .before .before .before .before .before .before .before .own-step-in .ensures) ∙ loop .inv .0, c .before .before .before .before .before .before .before .before .before .before .before .before .before .before .before .own-step-in .kept .1 .0 ∙ loop .inv .1, c .before .before .before .before .before .before .before .before .before .before .before .before .before .before .before .own-step-in .kept .1 .1 .0 ∙ loop .inv .2, c .before .before .before .before .before .before .before .before .before .before .before .before .before .before .before .own-step-in .kept .1 .1 .1 .0 ∙ loop .inv .3, c .before .before .before .before .before .before .before .before .before .before .before .before .before .before .before .own-step-in .kept .1 .1 .1 .1 .0 ∙ loop .inv .4, c .before .before .before .before .before .before .before .before .before .before .before .before .before .before .before .own-step-in .kept .1 .1 .1 .1 .1 .0 ∙ loop .inv .5, c .before .before .before .before .before .before .before .before .before .before .before .before .before .before .before .own-step-in .kept .1 .1 .1 .1 .1 .1 .0 ∙ loop .inv .6, c .before .before .before .before .before .before .before .before .before .before .before .before .before .before .before .own-step-in .kept .1 .1 .1 .1 .1 .1 .1 .0 ∙ loop .inv .7)
 
 enum-told : tie.Need-enum-told Inv-loop μ-loop
 enum-told c = search needs
@@ -69,7 +75,9 @@ same-length-5 : tie.Need-same-length-5 Inv-loop μ-loop
 same-length-5 c = c .before .before .before .before .before .before .before .before .before .before .before .before .before .before .own-step-in .kept .1 .1 .1 .1 .1 .0 ∙ c .before .before .before .before .before .before .before .before .before .before .before .before .before .before .before .before .before .before .before .before .before .before .before .before .loop .inv .5
 
 returns : tie.Need-returns Inv-loop μ-loop
-returns c = run-refused geometry (c .before .before .before .before .before .before .before .before .before .before .before .before .before .before .before .before .before .before .before .before .before .before .before .before .loop .s) (memory (c .before .before .before .before .before .before .before .before .before .before .before .before .before .before .before .before .before .before .before .before .before .before .before .before .loop .nets1) (c .before .before .before .before .before .before .before .before .before .before .before .before .before .before .before .before .before .before .before .before .before .before .before .before .loop .nets2) (c .before .before .before .before .before .before .before .before .before .before .before .before .before .before .before .before .before .before .before .before .before .before .before .before .loop .ranges) (c .before .before .before .before .before .before .before .before .before .before .before .before .before .before .before .before .before .before .before .before .before .before .before .before .loop .depths) (c .before .before .before .before .before .before .before .before .before .before .before .before .before .before .before .before .before .before .before .before .before .before .before .before .loop .raw)) _ (memory (c .before .before .before .before .before .before .before .before .before .before .before .before .before .before .own-step-in .last .1 .0) (c .before .before .before .before .before .before .before .before .before .before .before .before .before .before .own-step-in .last .1 .1 .0) (c .before .before .before .before .before .before .before .before .before .before .before .before .before .before .own-step-in .last .1 .1 .1 .0) (c .before .before .before .before .before .before .before .before .before .before .before .before .before .before .own-step-in .last .1 .1 .1 .1 .0) (c .before .before .before .before .before .before .before .before .before .before .before .before .before .before .own-step-in .last .1 .1 .1 .1 .1 .0)) (sym (c .before .before .before .before .before .before .before .before .before .before .before .before .before .before .before .before .before .before .before .before .before .before .before .ended .ensures) ∙ not-true _ (c .before .before .before .before .before .before .before .before .before .before .before .before .before .before .before .before .before .before .before .before .before .before .if1 .taken)) (inl refl) (ap (λ (r : Stepped). stepping r (memory (c .before .before .before .before .before .before .before .before .before .before .before .before .before .before .own-step-in .last .1 .0) (c .before .before .before .before .before .before .before .before .before .before .before .before .before .before .own-step-in .last .1 .1 .0) (c .before .before .before .before .before .before .before .before .before .before .before .before .before .before .own-step-in .last .1 .1 .1 .0) (c .before .before .before .before .before .before .before .before .before .before .before .before .before .before .own-step-in .last .1 .1 .1 .1 .0) (c .before .before .before .before .before .before .before .before .before .before .before .before .before .before .own-step-in .last .1 .1 .1 .1 .1 .0))) (sym (c .enum-told .given .1)) ∙ c .before .before .before .before .before .before .before .before .before .before .before .before .before .before .own-step-in .ensures) ∙ c .before .before .before .before .before .before .before .before .before .before .before .before .before .before .before .before .before .before .before .before .before .before .before .before .loop .inv .0
+returns c =
+    let loop = c .before .before .before .before .before .before .before .before .before .before .before .before .before .before .before .before .before .before .before .before .before .before .before .before .loop in
+    run-refused geometry (loop .s) (memory (loop .nets1) (loop .nets2) (loop .ranges) (loop .depths) (loop .raw)) _ (memory (c .before .before .before .before .before .before .before .before .before .before .before .before .before .before .own-step-in .last .1 .0) (c .before .before .before .before .before .before .before .before .before .before .before .before .before .before .own-step-in .last .1 .1 .0) (c .before .before .before .before .before .before .before .before .before .before .before .before .before .before .own-step-in .last .1 .1 .1 .0) (c .before .before .before .before .before .before .before .before .before .before .before .before .before .before .own-step-in .last .1 .1 .1 .1 .0) (c .before .before .before .before .before .before .before .before .before .before .before .before .before .before .own-step-in .last .1 .1 .1 .1 .1 .0)) (sym (c .before .before .before .before .before .before .before .before .before .before .before .before .before .before .before .before .before .before .before .before .before .before .before .ended .ensures) ∙ not-true _ (c .before .before .before .before .before .before .before .before .before .before .before .before .before .before .before .before .before .before .before .before .before .before .if1 .taken)) (inl refl) (ap (λ (r : Stepped). stepping r (memory (c .before .before .before .before .before .before .before .before .before .before .before .before .before .before .own-step-in .last .1 .0) (c .before .before .before .before .before .before .before .before .before .before .before .before .before .before .own-step-in .last .1 .1 .0) (c .before .before .before .before .before .before .before .before .before .before .before .before .before .before .own-step-in .last .1 .1 .1 .0) (c .before .before .before .before .before .before .before .before .before .before .before .before .before .before .own-step-in .last .1 .1 .1 .1 .0) (c .before .before .before .before .before .before .before .before .before .before .before .before .before .before .own-step-in .last .1 .1 .1 .1 .1 .0))) (sym (c .enum-told .given .1)) ∙ c .before .before .before .before .before .before .before .before .before .before .before .before .before .before .own-step-in .ensures) ∙ loop .inv .0
 
 enum-told-2 : tie.Need-enum-told-2 Inv-loop μ-loop
 enum-told-2 c = search needs
@@ -90,7 +98,9 @@ same-length-10 : tie.Need-same-length-10 Inv-loop μ-loop
 same-length-10 c = c .before .before .before .before .before .before .before .before .before .before .before .before .before .before .own-step-in .kept .1 .1 .1 .1 .1 .0 ∙ c .before .before .before .before .before .before .before .before .before .before .before .before .before .before .before .before .before .before .before .before .before .before .before .before .loop .inv .5
 
 returns-2 : tie.Need-returns-2 Inv-loop μ-loop
-returns-2 c = run-refused geometry (c .before .before .before .before .before .before .before .before .before .before .before .before .before .before .before .before .before .before .before .before .before .before .before .before .loop .s) (memory (c .before .before .before .before .before .before .before .before .before .before .before .before .before .before .before .before .before .before .before .before .before .before .before .before .loop .nets1) (c .before .before .before .before .before .before .before .before .before .before .before .before .before .before .before .before .before .before .before .before .before .before .before .before .loop .nets2) (c .before .before .before .before .before .before .before .before .before .before .before .before .before .before .before .before .before .before .before .before .before .before .before .before .loop .ranges) (c .before .before .before .before .before .before .before .before .before .before .before .before .before .before .before .before .before .before .before .before .before .before .before .before .loop .depths) (c .before .before .before .before .before .before .before .before .before .before .before .before .before .before .before .before .before .before .before .before .before .before .before .before .loop .raw)) _ (memory (c .before .before .before .before .before .before .before .before .before .before .before .before .before .before .own-step-in .last .1 .0) (c .before .before .before .before .before .before .before .before .before .before .before .before .before .before .own-step-in .last .1 .1 .0) (c .before .before .before .before .before .before .before .before .before .before .before .before .before .before .own-step-in .last .1 .1 .1 .0) (c .before .before .before .before .before .before .before .before .before .before .before .before .before .before .own-step-in .last .1 .1 .1 .1 .0) (c .before .before .before .before .before .before .before .before .before .before .before .before .before .before .own-step-in .last .1 .1 .1 .1 .1 .0)) (sym (c .before .before .before .before .before .before .before .before .before .before .before .before .before .before .before .before .before .before .before .before .before .before .before .ended .ensures) ∙ not-true _ (c .before .before .before .before .before .before .before .before .before .before .before .before .before .before .before .before .before .before .before .before .before .before .if1 .taken)) (inr refl) (ap (λ (r : Stepped). stepping r (memory (c .before .before .before .before .before .before .before .before .before .before .before .before .before .before .own-step-in .last .1 .0) (c .before .before .before .before .before .before .before .before .before .before .before .before .before .before .own-step-in .last .1 .1 .0) (c .before .before .before .before .before .before .before .before .before .before .before .before .before .before .own-step-in .last .1 .1 .1 .0) (c .before .before .before .before .before .before .before .before .before .before .before .before .before .before .own-step-in .last .1 .1 .1 .1 .0) (c .before .before .before .before .before .before .before .before .before .before .before .before .before .before .own-step-in .last .1 .1 .1 .1 .1 .0))) (sym (c .enum-told2 .given .1)) ∙ c .before .before .before .before .before .before .before .before .before .before .before .before .before .before .own-step-in .ensures) ∙ c .before .before .before .before .before .before .before .before .before .before .before .before .before .before .before .before .before .before .before .before .before .before .before .before .loop .inv .0
+returns-2 c =
+    let loop = c .before .before .before .before .before .before .before .before .before .before .before .before .before .before .before .before .before .before .before .before .before .before .before .before .loop in
+    run-refused geometry (loop .s) (memory (loop .nets1) (loop .nets2) (loop .ranges) (loop .depths) (loop .raw)) _ (memory (c .before .before .before .before .before .before .before .before .before .before .before .before .before .before .own-step-in .last .1 .0) (c .before .before .before .before .before .before .before .before .before .before .before .before .before .before .own-step-in .last .1 .1 .0) (c .before .before .before .before .before .before .before .before .before .before .before .before .before .before .own-step-in .last .1 .1 .1 .0) (c .before .before .before .before .before .before .before .before .before .before .before .before .before .before .own-step-in .last .1 .1 .1 .1 .0) (c .before .before .before .before .before .before .before .before .before .before .before .before .before .before .own-step-in .last .1 .1 .1 .1 .1 .0)) (sym (c .before .before .before .before .before .before .before .before .before .before .before .before .before .before .before .before .before .before .before .before .before .before .before .ended .ensures) ∙ not-true _ (c .before .before .before .before .before .before .before .before .before .before .before .before .before .before .before .before .before .before .before .before .before .before .if1 .taken)) (inr refl) (ap (λ (r : Stepped). stepping r (memory (c .before .before .before .before .before .before .before .before .before .before .before .before .before .before .own-step-in .last .1 .0) (c .before .before .before .before .before .before .before .before .before .before .before .before .before .before .own-step-in .last .1 .1 .0) (c .before .before .before .before .before .before .before .before .before .before .before .before .before .before .own-step-in .last .1 .1 .1 .0) (c .before .before .before .before .before .before .before .before .before .before .before .before .before .before .own-step-in .last .1 .1 .1 .1 .0) (c .before .before .before .before .before .before .before .before .before .before .before .before .before .before .own-step-in .last .1 .1 .1 .1 .1 .0))) (sym (c .enum-told2 .given .1)) ∙ c .before .before .before .before .before .before .before .before .before .before .before .before .before .before .own-step-in .ensures) ∙ loop .inv .0
 
 same-length-11 : tie.Need-same-length-11 Inv-loop μ-loop
 same-length-11 c = c .before .before .loop .inv .1
@@ -108,7 +118,9 @@ same-length-15 : tie.Need-same-length-15 Inv-loop μ-loop
 same-length-15 c = c .before .before .loop .inv .5
 
 returns-3 : tie.Need-returns-3 Inv-loop μ-loop
-returns-3 c = sym (run-over geometry (c .before .before .loop .s) (memory (c .before .before .loop .nets1) (c .before .before .loop .nets2) (c .before .before .loop .ranges) (c .before .before .loop .depths) (c .before .before .loop .raw)) (sym (c .before .ended .ensures) ∙ not-false _ (c .if1 .left))) ∙ c .before .before .loop .inv .0
+returns-3 c =
+    let loop = c .before .before .loop in
+    sym (run-over geometry (loop .s) (memory (loop .nets1) (loop .nets2) (loop .ranges) (loop .depths) (loop .raw)) (sym (c .before .ended .ensures) ∙ not-false _ (c .if1 .left))) ∙ loop .inv .0
 
 pub run-spec : {M : Type 1} → statement M
 run-spec =

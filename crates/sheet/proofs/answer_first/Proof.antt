@@ -47,25 +47,33 @@ array-share-prefix-knots : tie.Need-array-share-prefix-knots
 array-share-prefix-knots c = search needs
 
 slice-aggregate-answer-second : tie.Need-slice-aggregate-answer-second
-slice-aggregate-answer-second c = sym (length-take-le (c .before .before .before .before .before .before .before .before .before .before .before .before .before .before .before .before .before .args .l .knots .count) (c .before .before .before .before .before .before .read-line .last .1 .1 .0) (omega (arith, c .before .before .before .before .before .before .read-line .kept .1 .1 .0, c .before .before .before .before .before .before .before .before .before .before .before .before .before .before .float-room .ensures, c .before .before .before .before .before .before .before .before .before .before .before .before .before .before .before .before .before .pre .1, c .before .before .before .before .before .before .before .before .before .before .before .before .before .before .before .before .before .pre .2 .knots)))
+slice-aggregate-answer-second c =
+    let pre = c .before .before .before .before .before .before .before .before .before .before .before .before .before .before .before .before .before .pre in
+    sym (length-take-le (c .before .before .before .before .before .before .before .before .before .before .before .before .before .before .before .before .before .args .l .knots .count) (c .before .before .before .before .before .before .read-line .last .1 .1 .0) (omega (arith, c .before .before .before .before .before .before .read-line .kept .1 .1 .0, c .before .before .before .before .before .before .before .before .before .before .before .before .before .before .float-room .ensures, pre .1, pre .2 .knots)))
 
 array-share-prefix-mults : tie.Need-array-share-prefix-mults
 array-share-prefix-mults c = search needs
 
 slice-aggregate-answer-second-2 : tie.Need-slice-aggregate-answer-second-2
-slice-aggregate-answer-second-2 c = sym (length-take-le (c .before .before .before .before .before .before .before .before .before .before .before .before .before .before .before .before .before .before .args .l .mults .count) (c .before .before .before .before .before .before .before .read-line .last .1 .1 .1 .0) (omega (arith, c .before .before .before .before .before .before .before .read-line .kept .1 .1 .1 .0, c .before .before .before .before .before .before .before .before .before .before .before .before .before .before .word-room .ensures, c .before .before .before .before .before .before .before .before .before .before .before .before .before .before .before .before .before .before .pre .1, c .before .before .before .before .before .before .before .before .before .before .before .before .before .before .before .before .before .before .pre .2 .mults)))
+slice-aggregate-answer-second-2 c =
+    let pre = c .before .before .before .before .before .before .before .before .before .before .before .before .before .before .before .before .before .before .pre in
+    sym (length-take-le (c .before .before .before .before .before .before .before .before .before .before .before .before .before .before .before .before .before .before .args .l .mults .count) (c .before .before .before .before .before .before .before .read-line .last .1 .1 .1 .0) (omega (arith, c .before .before .before .before .before .before .before .read-line .kept .1 .1 .1 .0, c .before .before .before .before .before .before .before .before .before .before .before .before .before .before .word-room .ensures, pre .1, pre .2 .mults)))
 
 array-share-prefix-coords : tie.Need-array-share-prefix-coords
 array-share-prefix-coords c = search needs
 
 slice-aggregate-answer-second-3 : tie.Need-slice-aggregate-answer-second-3
-slice-aggregate-answer-second-3 c = sym (length-take-le (3 * c .before .before .before .before .before .before .before .before .before .before .before .before .before .before .before .before .before .before .before .args .l .poles .count) (c .before .before .before .before .before .before .before .before .read-line .last .1 .1 .1 .1 .0) (omega (arith, c .before .before .before .before .before .before .before .before .read-line .kept .1 .1 .1 .1 .0, c .before .before .before .before .before .before .before .before .before .before .before .before .before .before .float-room2 .ensures, c .before .before .before .before .before .before .before .before .before .before .before .before .before .before .before .before .before .before .before .pre .1, c .before .before .before .before .before .before .before .before .before .before .before .before .before .before .before .before .before .before .before .pre .2 .poles)))
+slice-aggregate-answer-second-3 c =
+    let pre = c .before .before .before .before .before .before .before .before .before .before .before .before .before .before .before .before .before .before .before .pre in
+    sym (length-take-le (3 * c .before .before .before .before .before .before .before .before .before .before .before .before .before .before .before .before .before .before .before .args .l .poles .count) (c .before .before .before .before .before .before .before .before .read-line .last .1 .1 .1 .1 .0) (omega (arith, c .before .before .before .before .before .before .before .before .read-line .kept .1 .1 .1 .1 .0, c .before .before .before .before .before .before .before .before .before .before .before .before .before .before .float-room2 .ensures, pre .1, pre .2 .poles)))
 
 array-share-prefix-weights : tie.Need-array-share-prefix-weights
 array-share-prefix-weights c = search needs
 
 slice-aggregate-answer-second-4 : tie.Need-slice-aggregate-answer-second-4
-slice-aggregate-answer-second-4 c = sym (length-take-le (c .before .before .before .before .before .before .before .before .before .before .before .before .before .before .before .before .before .before .before .before .args .l .weights .count) (c .before .before .before .before .before .before .before .before .before .read-line .last .1 .1 .1 .1 .1 .0) (omega (arith, c .before .before .before .before .before .before .before .before .before .read-line .kept .1 .1 .1 .1 .1 .0, c .before .before .before .before .before .before .before .before .before .before .before .before .before .before .float-room3 .ensures, c .before .before .before .before .before .before .before .before .before .before .before .before .before .before .before .before .before .before .before .before .pre .1, c .before .before .before .before .before .before .before .before .before .before .before .before .before .before .before .before .before .before .before .before .pre .2 .weights)))
+slice-aggregate-answer-second-4 c =
+    let pre = c .before .before .before .before .before .before .before .before .before .before .before .before .before .before .before .before .before .before .before .before .pre in
+    sym (length-take-le (c .before .before .before .before .before .before .before .before .before .before .before .before .before .before .before .before .before .before .before .before .args .l .weights .count) (c .before .before .before .before .before .before .before .before .before .read-line .last .1 .1 .1 .1 .1 .0) (omega (arith, c .before .before .before .before .before .before .before .before .before .read-line .kept .1 .1 .1 .1 .1 .0, c .before .before .before .before .before .before .before .before .before .before .before .before .before .before .float-room3 .ensures, pre .1, pre .2 .weights)))
 
 answer-second-requires : tie.Need-answer-second-requires
 answer-second-requires c κs = search needs

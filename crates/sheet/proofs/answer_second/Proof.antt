@@ -40,31 +40,49 @@ read-line-requires : tie.Need-read-line-requires
 read-line-requires c κs = search needs
 
 mul-c : tie.Need-mul-c
-mul-c c = search (needs, c .before .before .before .before .before .before .before .before .before .before .before .before .before .before .before .before .before .before .before .before .pre .1, c .before .before .before .before .before .before .before .before .before .before .before .before .before .before .before .before .before .before .before .before .pre .2 .poles)
+mul-c c =
+    let pre = c .before .before .before .before .before .before .before .before .before .before .before .before .before .before .before .before .before .before .before .before .pre in
+    search (needs, pre .1, pre .2 .poles)
 
 array-share-prefix-knots : tie.Need-array-share-prefix-knots
-array-share-prefix-knots c = (omega (arith, c .before .before .before .before .before .read-line .kept .1 .1 .0, c .before .before .before .before .before .before .before .before .before .before .before .before .before .float-room .ensures, c .before .before .before .before .before .before .before .before .before .before .before .before .before .before .before .before .before .before .before .before .pre .1, c .before .before .before .before .before .before .before .before .before .before .before .before .before .before .before .before .before .before .before .before .pre .2 .knots))
+array-share-prefix-knots c =
+    let pre = c .before .before .before .before .before .before .before .before .before .before .before .before .before .before .before .before .before .before .before .before .pre in
+    (omega (arith, c .before .before .before .before .before .read-line .kept .1 .1 .0, c .before .before .before .before .before .before .before .before .before .before .before .before .before .float-room .ensures, pre .1, pre .2 .knots))
 
 slice-aggregate-answer-lines : tie.Need-slice-aggregate-answer-lines
-slice-aggregate-answer-lines c = sym (length-take-le (c .before .before .before .before .before .before .before .before .before .before .before .before .before .before .before .before .before .before .before .before .before .args .l .knots .count) (c .before .before .before .before .before .before .read-line .last .1 .1 .0) (omega (arith, c .before .before .before .before .before .before .read-line .kept .1 .1 .0, c .before .before .before .before .before .before .before .before .before .before .before .before .before .before .float-room .ensures, c .before .before .before .before .before .before .before .before .before .before .before .before .before .before .before .before .before .before .before .before .before .pre .1, c .before .before .before .before .before .before .before .before .before .before .before .before .before .before .before .before .before .before .before .before .before .pre .2 .knots)))
+slice-aggregate-answer-lines c =
+    let pre = c .before .before .before .before .before .before .before .before .before .before .before .before .before .before .before .before .before .before .before .before .before .pre in
+    sym (length-take-le (c .before .before .before .before .before .before .before .before .before .before .before .before .before .before .before .before .before .before .before .before .before .args .l .knots .count) (c .before .before .before .before .before .before .read-line .last .1 .1 .0) (omega (arith, c .before .before .before .before .before .before .read-line .kept .1 .1 .0, c .before .before .before .before .before .before .before .before .before .before .before .before .before .before .float-room .ensures, pre .1, pre .2 .knots)))
 
 array-share-prefix-mults : tie.Need-array-share-prefix-mults
-array-share-prefix-mults c = (omega (arith, c .before .before .before .before .before .before .read-line .kept .1 .1 .1 .0, c .before .before .before .before .before .before .before .before .before .before .before .before .before .word-room .ensures, c .before .before .before .before .before .before .before .before .before .before .before .before .before .before .before .before .before .before .before .before .before .pre .1, c .before .before .before .before .before .before .before .before .before .before .before .before .before .before .before .before .before .before .before .before .before .pre .2 .mults))
+array-share-prefix-mults c =
+    let pre = c .before .before .before .before .before .before .before .before .before .before .before .before .before .before .before .before .before .before .before .before .before .pre in
+    (omega (arith, c .before .before .before .before .before .before .read-line .kept .1 .1 .1 .0, c .before .before .before .before .before .before .before .before .before .before .before .before .before .word-room .ensures, pre .1, pre .2 .mults))
 
 slice-aggregate-answer-lines-2 : tie.Need-slice-aggregate-answer-lines-2
-slice-aggregate-answer-lines-2 c = sym (length-take-le (c .before .before .before .before .before .before .before .before .before .before .before .before .before .before .before .before .before .before .before .before .before .before .args .l .mults .count) (c .before .before .before .before .before .before .before .read-line .last .1 .1 .1 .0) (omega (arith, c .before .before .before .before .before .before .before .read-line .kept .1 .1 .1 .0, c .before .before .before .before .before .before .before .before .before .before .before .before .before .before .word-room .ensures, c .before .before .before .before .before .before .before .before .before .before .before .before .before .before .before .before .before .before .before .before .before .before .pre .1, c .before .before .before .before .before .before .before .before .before .before .before .before .before .before .before .before .before .before .before .before .before .before .pre .2 .mults)))
+slice-aggregate-answer-lines-2 c =
+    let pre = c .before .before .before .before .before .before .before .before .before .before .before .before .before .before .before .before .before .before .before .before .before .before .pre in
+    sym (length-take-le (c .before .before .before .before .before .before .before .before .before .before .before .before .before .before .before .before .before .before .before .before .before .before .args .l .mults .count) (c .before .before .before .before .before .before .before .read-line .last .1 .1 .1 .0) (omega (arith, c .before .before .before .before .before .before .before .read-line .kept .1 .1 .1 .0, c .before .before .before .before .before .before .before .before .before .before .before .before .before .before .word-room .ensures, pre .1, pre .2 .mults)))
 
 array-share-prefix-coords : tie.Need-array-share-prefix-coords
-array-share-prefix-coords c = (omega (arith, c .before .before .before .before .before .before .before .read-line .kept .1 .1 .1 .1 .0, c .before .before .before .before .before .before .before .before .before .before .before .before .before .float-room2 .ensures, c .before .before .before .before .before .before .before .before .before .before .before .before .before .before .before .before .before .before .before .before .before .before .pre .1, c .before .before .before .before .before .before .before .before .before .before .before .before .before .before .before .before .before .before .before .before .before .before .pre .2 .poles))
+array-share-prefix-coords c =
+    let pre = c .before .before .before .before .before .before .before .before .before .before .before .before .before .before .before .before .before .before .before .before .before .before .pre in
+    (omega (arith, c .before .before .before .before .before .before .before .read-line .kept .1 .1 .1 .1 .0, c .before .before .before .before .before .before .before .before .before .before .before .before .before .float-room2 .ensures, pre .1, pre .2 .poles))
 
 slice-aggregate-answer-lines-3 : tie.Need-slice-aggregate-answer-lines-3
-slice-aggregate-answer-lines-3 c = sym (length-take-le (3 * c .before .before .before .before .before .before .before .before .before .before .before .before .before .before .before .before .before .before .before .before .before .before .before .args .l .poles .count) (c .before .before .before .before .before .before .before .before .read-line .last .1 .1 .1 .1 .0) (omega (arith, c .before .before .before .before .before .before .before .before .read-line .kept .1 .1 .1 .1 .0, c .before .before .before .before .before .before .before .before .before .before .before .before .before .before .float-room2 .ensures, c .before .before .before .before .before .before .before .before .before .before .before .before .before .before .before .before .before .before .before .before .before .before .before .pre .1, c .before .before .before .before .before .before .before .before .before .before .before .before .before .before .before .before .before .before .before .before .before .before .before .pre .2 .poles)))
+slice-aggregate-answer-lines-3 c =
+    let pre = c .before .before .before .before .before .before .before .before .before .before .before .before .before .before .before .before .before .before .before .before .before .before .before .pre in
+    sym (length-take-le (3 * c .before .before .before .before .before .before .before .before .before .before .before .before .before .before .before .before .before .before .before .before .before .before .before .args .l .poles .count) (c .before .before .before .before .before .before .before .before .read-line .last .1 .1 .1 .1 .0) (omega (arith, c .before .before .before .before .before .before .before .before .read-line .kept .1 .1 .1 .1 .0, c .before .before .before .before .before .before .before .before .before .before .before .before .before .before .float-room2 .ensures, pre .1, pre .2 .poles)))
 
 array-share-prefix-weights : tie.Need-array-share-prefix-weights
-array-share-prefix-weights c = (omega (arith, c .before .before .before .before .before .before .before .before .read-line .kept .1 .1 .1 .1 .1 .0, c .before .before .before .before .before .before .before .before .before .before .before .before .before .float-room3 .ensures, c .before .before .before .before .before .before .before .before .before .before .before .before .before .before .before .before .before .before .before .before .before .before .before .pre .1, c .before .before .before .before .before .before .before .before .before .before .before .before .before .before .before .before .before .before .before .before .before .before .before .pre .2 .weights))
+array-share-prefix-weights c =
+    let pre = c .before .before .before .before .before .before .before .before .before .before .before .before .before .before .before .before .before .before .before .before .before .before .before .pre in
+    (omega (arith, c .before .before .before .before .before .before .before .before .read-line .kept .1 .1 .1 .1 .1 .0, c .before .before .before .before .before .before .before .before .before .before .before .before .before .float-room3 .ensures, pre .1, pre .2 .weights))
 
 slice-aggregate-answer-lines-4 : tie.Need-slice-aggregate-answer-lines-4
-slice-aggregate-answer-lines-4 c = sym (length-take-le (c .before .before .before .before .before .before .before .before .before .before .before .before .before .before .before .before .before .before .before .before .before .before .before .before .args .l .weights .count) (c .before .before .before .before .before .before .before .before .before .read-line .last .1 .1 .1 .1 .1 .0) (omega (arith, c .before .before .before .before .before .before .before .before .before .read-line .kept .1 .1 .1 .1 .1 .0, c .before .before .before .before .before .before .before .before .before .before .before .before .before .before .float-room3 .ensures, c .before .before .before .before .before .before .before .before .before .before .before .before .before .before .before .before .before .before .before .before .before .before .before .before .pre .1, c .before .before .before .before .before .before .before .before .before .before .before .before .before .before .before .before .before .before .before .before .before .before .before .before .pre .2 .weights)))
+slice-aggregate-answer-lines-4 c =
+    let pre = c .before .before .before .before .before .before .before .before .before .before .before .before .before .before .before .before .before .before .before .before .before .before .before .before .pre in
+    sym (length-take-le (c .before .before .before .before .before .before .before .before .before .before .before .before .before .before .before .before .before .before .before .before .before .before .before .before .args .l .weights .count) (c .before .before .before .before .before .before .before .before .before .read-line .last .1 .1 .1 .1 .1 .0) (omega (arith, c .before .before .before .before .before .before .before .before .before .read-line .kept .1 .1 .1 .1 .1 .0, c .before .before .before .before .before .before .before .before .before .before .before .before .before .before .float-room3 .ensures, pre .1, pre .2 .weights)))
 
 answer-lines-requires : tie.Need-answer-lines-requires
 answer-lines-requires c κs = c .before .before .before .before .before .before .before .before .before .before .before .before .before .before .before .before .before .before .before .before .before .before .before .before .before .pre .0

@@ -14,7 +14,9 @@ same-length : tie.Need-same-length
 same-length c = search needs
 
 returns : tie.Need-returns
-returns c = from-front (c .before .before .before .before .before .before .before .before .before .args .out .now) _ _ (refused-answer (c .before .before .before .before .before .before .before .before .before .args .s .now) (c .before .before .before .before .before .before .walk .result) (c .before .before .before .before .if1 .taken) (c .before .before .before .before .before .before .walk .ensures .0)) (c .before .before .put-refusal .ensures)
+returns c =
+    let args = c .before .before .before .before .before .before .before .before .before .args in
+    from-front (args .out .now) _ _ (refused-answer (args .s .now) (c .before .before .before .before .before .before .walk .result) (c .before .before .before .before .if1 .taken) (c .before .before .before .before .before .before .walk .ensures .0)) (c .before .before .put-refusal .ensures)
 
 question-at-requires : tie.Need-question-at-requires
 question-at-requires c κs = c .before .before .before .before .walk .ensures .1 (c .before .before .if1 .left) .asked
@@ -28,7 +30,9 @@ same-length-2 : tie.Need-same-length-2
 same-length-2 c = search needs
 
 returns-2 : tie.Need-returns-2
-returns-2 c = from-front (c .before .before .before .before .before .before .before .before .before .before .before .before .args .out .now) _ _ (walked-answer (c .before .before .before .before .before .before .before .before .before .before .before .before .args .s .now) (c .before .before .before .before .before .before .before .before .before .walk .result) (c .before .before .before .before .question-at .result) (c .before .before .before .before .before .before .before .if1 .left) (c .before .before .before .before .before .before .before .before .before .walk .ensures .0) (c .before .before .before .before .question-at .ensures)) (c .before .before .answer-first .ensures)
+returns-2 c =
+    let args = c .before .before .before .before .before .before .before .before .before .before .before .before .args in
+    from-front (args .out .now) _ _ (walked-answer (args .s .now) (c .before .before .before .before .before .before .before .before .before .walk .result) (c .before .before .before .before .question-at .result) (c .before .before .before .before .before .before .before .if1 .left) (c .before .before .before .before .before .before .before .before .before .walk .ensures .0) (c .before .before .before .before .question-at .ensures)) (c .before .before .answer-first .ensures)
 
 pub answer-sheet-spec : {M : Type 1} → statement M
 answer-sheet-spec =

@@ -18,7 +18,8 @@ passed-requires c κs = search needs
 returns : tie.Need-returns
 unfolding spanEnd
 returns c =
-    let e : 0 ≡ passedOf (length (c .before .before .before .args .knots .now) - 1) 0 (c .before .before .before .args .t) (c .before .before .before .args .knots .now) = sym (c .if1 .taken) ∙ c .before .passed .ensures .0 in
+    let args = c .before .before .before .args in
+    let e : 0 ≡ passedOf (length (args .knots .now) - 1) 0 (args .t) (args .knots .now) = sym (c .if1 .taken) ∙ c .before .passed .ensures .0 in
     (ap orOne e, search needs, search needs)
 
 returns-2 : tie.Need-returns-2

@@ -1,54 +1,32 @@
--- `has_room` is enough: one test a return. Assumes nothing.
+-- `has_room` is enough: the room to judge, then one test a return. Assumes nothing.
 use borrow.Author.Needs.{needs}
-use Prim.Native.Nat.{_+_, _*_}
+use mathlib.Core.Path.{refl}
+use Prim.Native.Nat.{_+_}
 use native.Mathlib.Numerals.{add-one}
 use native.Mathlib.Omega.{arith}
-use borrow.Author.Tests.{le-leb, lt-leb}
+use borrow.Author.Tests.{le-leb, lt-leb, not-true, not-false}
+use Rattle.lists.proofs.Tests.{and-then, and-not}
 use Rattle.states.proofs.Laws.{product-fits}
 use Rattle.states.proofs.has_room.Statement.{statement}
 use Rattle.states.proofs.has_room.Tie as tie
 
-cast-nodes : tie.Need-cast-nodes
-cast-nodes c = search needs
-
-add-nodes : tie.Need-add-nodes
-add-nodes c = search needs
-
-cast-if1 : tie.Need-cast-if1
-cast-if1 c = search needs
-
-mul-if1 : tie.Need-mul-if1
-mul-if1 c = search needs
-
-mul-if1-2 : tie.Need-mul-if1-2
-mul-if1-2 c = omega (arith, product-fits (c .before .before .args .st .pairs + 64) (4 * c .before .before .args .st .width1) (omega arith) (omega arith))
+has-room-to-judge-requires : tie.Need-has-room-to-judge-requires
+has-room-to-judge-requires c κs = search needs
 
 returns : tie.Need-returns
-returns c = simp (lt-leb _ _ (c .if1 .taken))
+returns c = and-not _ _ _ (c .before .has-room-to-judge .ensures) (not-true _ (c .if1 .taken))
 
 cast-if2 : tie.Need-cast-if2
 cast-if2 c = search needs
 
+add-if2 : tie.Need-add-if2
+add-if2 c = search needs
+
 mul-if2 : tie.Need-mul-if2
 mul-if2 c = search needs
 
-mul-if2-2 : tie.Need-mul-if2-2
-mul-if2-2 c = omega (arith, product-fits (c .before .before .before .before .args .st .pairs + 64) (4 * c .before .before .before .before .args .st .width2) (omega arith) (omega arith))
-
 returns-2 : tie.Need-returns-2
-returns-2 c = simp (le-leb _ _ (c .before .before .if1 .left), lt-leb _ _ (c .if2 .taken))
-
-mul-if3 : tie.Need-mul-if3
-mul-if3 c = search needs
-
-returns-3 : tie.Need-returns-3
-returns-3 c = simp (le-leb _ _ (c .before .before .before .if1 .left), le-leb _ _ (c .before .if2 .left), lt-leb _ _ (c .if3 .taken))
-
-mul-if4 : tie.Need-mul-if4
-mul-if4 c = search needs
-
-returns-4 : tie.Need-returns-4
-returns-4 c = simp (le-leb _ _ (c .before .before .before .before .if1 .left), le-leb _ _ (c .before .before .if2 .left), le-leb _ _ (c .before .if3 .left), lt-leb _ _ (c .if4 .taken))
+returns-2 c = and-then _ _ _ _ (c .before .before .before .has-room-to-judge .ensures) (not-false _ (c .before .before .if1 .left)) (and-not _ _ _ refl (lt-leb _ _ (c .if2 .taken)))
 
 cast-result : tie.Need-cast-result
 cast-result c = search needs
@@ -60,35 +38,21 @@ add-result : tie.Need-add-result
 add-result c = search needs
 
 mul-result : tie.Need-mul-result
-mul-result c = omega (arith, product-fits (c .before .before .before .before .before .before .before .before .before .args .st .pairs) (c .before .before .before .before .before .before .before .before .before .args .st .quota + 1) (omega arith) (omega arith))
+mul-result c =
+    let st = c .before .before .before .before .before .before .args .st in
+    omega (arith, product-fits (st .pairs) (st .quota + 1) (omega arith) (omega arith))
 
 mul-result-2 : tie.Need-mul-result-2
-mul-result-2 c = omega (arith, product-fits (c .before .before .before .before .before .before .before .before .before .args .st .pairs) (c .before .before .before .before .before .before .before .before .before .args .st .quota + 1) (omega arith) (omega arith))
+mul-result-2 c =
+    let st = c .before .before .before .before .before .before .args .st in
+    omega (arith, product-fits (st .pairs) (st .quota + 1) (omega arith) (omega arith))
 
-returns-5 : tie.Need-returns-5
-returns-5 c = simp (le-leb _ _ (c .before .before .before .before .before .before .if1 .left), le-leb _ _ (c .before .before .before .before .if2 .left), le-leb _ _ (c .before .before .before .if3 .left), le-leb _ _ (c .before .before .if4 .left), add-one)
+returns-3 : tie.Need-returns-3
+returns-3 c =
+    let b = c .before .before .before .before in
+    and-then _ _ _ _ (b .before .has-room-to-judge .ensures) (not-false _ (b .if1 .left)) (simp (le-leb _ _ (c .before .before .if2 .left), add-one))
 
 pub has-room-spec : {M : Type 1} → statement M
 has-room-spec =
     tie.close
-    (tie.spec
-    cast-nodes
-    add-nodes
-    cast-if1
-    mul-if1
-    mul-if1-2
-    returns
-    cast-if2
-    mul-if2
-    mul-if2-2
-    returns-2
-    mul-if3
-    returns-3
-    mul-if4
-    returns-4
-    cast-result
-    cast-result-2
-    add-result
-    mul-result
-    mul-result-2
-    returns-5)
+    (tie.spec has-room-to-judge-requires returns cast-if2 add-if2 mul-if2 returns-2 cast-result cast-result-2 add-result mul-result mul-result-2 returns-3)

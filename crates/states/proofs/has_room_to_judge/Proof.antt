@@ -3,7 +3,6 @@ use borrow.Author.Needs.{needs}
 use Prim.Native.Nat.{_+_, _*_}
 use native.Mathlib.Omega.{arith}
 use borrow.Author.Tests.{le-leb, lt-leb}
-use Rattle.states.specs.States.{enoughOwn}
 use Rattle.states.proofs.Laws.{product-fits}
 use Rattle.states.proofs.has_room_to_judge.Statement.{statement}
 use Rattle.states.proofs.has_room_to_judge.Tie as tie

@@ -1,7 +1,6 @@
 -- `is_search` is searchWith: one test a return. Assumes nothing.
 use borrow.Author.Needs.{needs}
 use mathlib.Core.Path.{sym, _∙_}
-use Prim.Native.Nat.{_+_, _*_}
 use native.Mathlib.Omega.{arith}
 use borrow.Author.Tests.{eq-eqb, ne-eqb, not-true, not-false}
 use Rattle.states.proofs.Laws.{product-fits}
@@ -54,7 +53,9 @@ cast-if3-3 : tie.Need-cast-if3-3
 cast-if3-3 c = search needs
 
 mul-if3 : tie.Need-mul-if3
-mul-if3 c = omega (arith, product-fits (c .before .before .before .before .before .before .before .before .before .before .before .args .st .quota) (c .before .before .before .before .before .before .before .before .before .before .before .args .st .pairs) (omega arith) (omega arith))
+mul-if3 c =
+    let args = c .before .before .before .before .before .before .before .before .before .before .before .args in
+    omega (arith, product-fits (args .st .quota) (args .st .pairs) (omega arith) (omega arith))
 
 returns-3 : tie.Need-returns-3
 returns-3 c = simp (sym (c .before .before .before .before .before .before .before .before .before .before .before .top-fits .ensures) ∙ not-false _ (c .before .before .before .before .before .before .before .before .before .before .if1 .left), eq-eqb _ _ (c .before .before .before .before .if2 .left), ne-eqb _ _ (c .if3 .taken))

@@ -33,7 +33,9 @@ loop-less : tie.Need-loop-less Inv-loop μ-loop
 loop-less c = search needs
 
 loop-again : tie.Need-loop-again Inv-loop μ-loop
-loop-again c = (search needs, search needs, copy-turn (c .before .before .before .args .out .now) (c .before .before .before .args .at) (c .before .before .before .args .text .now) (c .before .before .loop .i) (c .before .before .loop .inv .2) (search needs) (search needs))
+loop-again c =
+    let args = c .before .before .before .args in
+    (search needs, search needs, copy-turn (args .out .now) (args .at) (args .text .now) (c .before .before .loop .i) (c .before .before .loop .inv .2) (search needs) (search needs))
 
 add-result : tie.Need-add-result Inv-loop μ-loop
 add-result c = search needs
@@ -42,7 +44,9 @@ same-length : tie.Need-same-length Inv-loop μ-loop
 same-length c = search needs
 
 returns : tie.Need-returns Inv-loop μ-loop
-returns c = (search needs, copied (c .before .before .args .out .now) (c .before .before .args .at) (c .before .before .args .text .now) (c .before .loop .i) (search needs) (c .before .loop .inv .2))
+returns c =
+    let args = c .before .before .args in
+    (search needs, copied (args .out .now) (args .at) (args .text .now) (c .before .loop .i) (search needs) (c .before .loop .inv .2))
 
 pub put-bytes-spec : {M : Type 1} → statement M
 put-bytes-spec =

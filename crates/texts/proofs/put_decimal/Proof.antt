@@ -18,7 +18,9 @@ same-length : tie.Need-same-length
 same-length c = search needs
 
 returns : tie.Need-returns
-returns c = (omega (arith, decimal-length (c .before .before .before .before .before .before .args .n), c .before .before .before .before .places .ensures .0), decimal-is (c .before .before .before .before .before .before .args .out .now) (c .before .before .before .before .before .before .args .at) (c .before .before .before .before .places .result) (c .before .before .before .before .before .before .args .n) (c .before .before .before .before .places .ensures .0) (c .before .before .put-digits .ensures))
+returns c =
+    let args = c .before .before .before .before .before .before .args in
+    (omega (arith, decimal-length (args .n), c .before .before .before .before .places .ensures .0), decimal-is (args .out .now) (args .at) (c .before .before .before .before .places .result) (args .n) (c .before .before .before .before .places .ensures .0) (c .before .before .put-digits .ensures))
 
 pub put-decimal-spec : {M : Type 1} → statement M
 put-decimal-spec =

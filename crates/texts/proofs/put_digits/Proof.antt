@@ -42,7 +42,9 @@ loop-less : tie.Need-loop-less Inv-loop μ-loop
 loop-less c = search needs
 
 loop-again : tie.Need-loop-again Inv-loop μ-loop
-loop-again c = (search needs, search needs, search needs, digits-turn (c .before .before .loop .out) (c .before .before .before .before .args .at) (c .before .before .loop .i) (c .before .before .before .before .args .base) (c .before .before .loop .left) (c .hex-digit .result) (search needs) (search needs) (c .hex-digit .ensures) ∙ c .before .before .loop .inv .3)
+loop-again c =
+    let loop = c .before .before .loop in
+    (search needs, search needs, search needs, digits-turn (loop .out) (c .before .before .before .before .args .at) (loop .i) (c .before .before .before .before .args .base) (loop .left) (c .hex-digit .result) (search needs) (search needs) (c .hex-digit .ensures) ∙ loop .inv .3)
 
 same-length : tie.Need-same-length Inv-loop μ-loop
 same-length c = search needs

@@ -23,10 +23,14 @@ add-result : tie.Need-add-result
 add-result c = search needs
 
 same-length : tie.Need-same-length
-same-length c = c .before .before .put-digits .kept .0 ∙ length-set (c .before .before .before .before .before .before .args .out .now) (c .before .before .before .before .before .before .args .at) 32
+same-length c =
+    let args = c .before .before .before .before .before .before .args in
+    c .before .before .put-digits .kept .0 ∙ length-set (args .out .now) (args .at) 32
 
 returns : tie.Need-returns
-returns c = (omega (arith, float-length (c .before .before .before .before .before .before .args .x)), float-is (c .before .before .before .before .before .before .args .out .now) (c .before .before .before .before .before .before .args .at) (c .before .before .before .bits .result) (c .before .before .before .before .before .before .args .x) (search needs) (c .before .before .before .bits .ensures) (c .before .before .put-digits .ensures))
+returns c =
+    let args = c .before .before .before .before .before .before .args in
+    (omega (arith, float-length (args .x)), float-is (args .out .now) (args .at) (c .before .before .before .bits .result) (args .x) (search needs) (c .before .before .before .bits .ensures) (c .before .before .put-digits .ensures))
 
 pub put-float-spec : {M : Type 1} → statement M
 put-float-spec =

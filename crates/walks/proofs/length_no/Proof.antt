@@ -16,11 +16,15 @@ returns-2 c = simp (ne-eqb (c .before .before .args .n) 0 (c .before .if1 .left)
 
 returns-3 : tie.Need-returns-3
 unfolding badLength
-returns-3 c = simp (ne-eqb (c .before .before .before .args .n) 0 (c .before .before .if1 .left), eq-eqb (c .before .before .before .args .n % 4) 0 (c .before .if2 .left), lt-ltb 16384 (c .before .before .before .args .n) (omega arith))
+returns-3 c =
+    let args = c .before .before .before .args in
+    simp (ne-eqb (args .n) 0 (c .before .before .if1 .left), eq-eqb (args .n % 4) 0 (c .before .if2 .left), lt-ltb 16384 (args .n) (omega arith))
 
 returns-4 : tie.Need-returns-4
 unfolding badLength
-returns-4 c = simp (ne-eqb (c .before .before .before .args .n) 0 (c .before .before .if1 .left), eq-eqb (c .before .before .before .args .n % 4) 0 (c .before .if2 .left), le-ltb 16384 (c .before .before .before .args .n) (omega arith))
+returns-4 c =
+    let args = c .before .before .before .args in
+    simp (ne-eqb (args .n) 0 (c .before .before .if1 .left), eq-eqb (args .n % 4) 0 (c .before .if2 .left), le-ltb 16384 (args .n) (omega arith))
 
 pub length-no-spec : {M : Type 1} → statement M
 length-no-spec = tie.close (tie.spec returns returns-2 returns-3 returns-4)

@@ -16,7 +16,9 @@ abbrev μ-loop : tie.MeasureT-loop
 μ-loop s at n out₀ i₀ out i = n - i
 
 loop-holds : tie.Need-loop-holds Inv-loop μ-loop
-loop-holds c = (search needs, search needs, read-start (floatsFrom (c .before .before .args .s .now)) 8 (c .before .before .args .out .now) (c .before .before .args .at) (c .before .before .args .n))
+loop-holds c =
+    let args = c .before .before .args in
+    (search needs, search needs, read-start (floatsFrom (args .s .now)) 8 (args .out .now) (args .at) (args .n))
 
 mul-float-at : tie.Need-mul-float-at Inv-loop μ-loop
 mul-float-at c = search needs
@@ -41,14 +43,19 @@ loop-less c = search needs
 
 loop-again : tie.Need-loop-again Inv-loop μ-loop
 unfolding floatsFrom
-loop-again c = (search needs, search needs, read-turn (floatsFrom (c .before .before .before .before .before .args .s .now)) (floatAt (c .before .before .before .before .before .args .s .now)) 8 (λ a n. refl) (floats-length (c .before .before .before .before .before .args .s .now)) (c .before .before .loop .out) (c .before .before .before .before .before .args .at) (c .before .before .before .before .before .args .n) (c .before .before .loop .i) (c .float-at .result) (search needs) (search needs) (c .float-at .ensures) ∙ c .before .before .loop .inv .2)
+loop-again c =
+    let args = c .before .before .before .before .before .args in
+    let loop = c .before .before .loop in
+    (search needs, search needs, read-turn (floatsFrom (args .s .now)) (floatAt (args .s .now)) 8 (λ a n. refl) (floats-length (args .s .now)) (loop .out) (args .at) (args .n) (loop .i) (c .float-at .result) (search needs) (search needs) (c .float-at .ensures) ∙ loop .inv .2)
 
 same-length : tie.Need-same-length Inv-loop μ-loop
 same-length c = search needs
 
 returns : tie.Need-returns Inv-loop μ-loop
 unfolding floatsFrom
-returns c = read-done (floatsFrom (c .before .before .before .before .args .s .now)) 8 (λ a. refl) (c .before .loop .out) (c .before .before .before .before .args .at) (c .before .before .before .before .args .n) (c .before .loop .i) (search needs) (c .before .loop .inv .2)
+returns c =
+    let args = c .before .before .before .before .args in
+    read-done (floatsFrom (args .s .now)) 8 (λ a. refl) (c .before .loop .out) (args .at) (args .n) (c .before .loop .i) (search needs) (c .before .loop .inv .2)
 
 pub read-floats-spec : {M : Type 1} → statement M
 read-floats-spec =

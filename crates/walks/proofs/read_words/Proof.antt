@@ -16,7 +16,9 @@ abbrev μ-loop : tie.MeasureT-loop
 μ-loop s at n out₀ i₀ out i = n - i
 
 loop-holds : tie.Need-loop-holds Inv-loop μ-loop
-loop-holds c = (search needs, search needs, read-start (wordsFrom (c .before .before .args .s .now)) 4 (c .before .before .args .out .now) (c .before .before .args .at) (c .before .before .args .n))
+loop-holds c =
+    let args = c .before .before .args in
+    (search needs, search needs, read-start (wordsFrom (args .s .now)) 4 (args .out .now) (args .at) (args .n))
 
 mul-word : tie.Need-mul-word Inv-loop μ-loop
 mul-word c = search needs
@@ -41,14 +43,19 @@ loop-less c = search needs
 
 loop-again : tie.Need-loop-again Inv-loop μ-loop
 unfolding wordsFrom
-loop-again c = (search needs, search needs, read-turn (wordsFrom (c .before .before .before .before .before .args .s .now)) (wordAt (c .before .before .before .before .before .args .s .now)) 4 (λ a n. refl) (words-length (c .before .before .before .before .before .args .s .now)) (c .before .before .loop .out) (c .before .before .before .before .before .args .at) (c .before .before .before .before .before .args .n) (c .before .before .loop .i) (c .word .result) (search needs) (search needs) (c .word .ensures .0) ∙ c .before .before .loop .inv .2)
+loop-again c =
+    let args = c .before .before .before .before .before .args in
+    let loop = c .before .before .loop in
+    (search needs, search needs, read-turn (wordsFrom (args .s .now)) (wordAt (args .s .now)) 4 (λ a n. refl) (words-length (args .s .now)) (loop .out) (args .at) (args .n) (loop .i) (c .word .result) (search needs) (search needs) (c .word .ensures .0) ∙ loop .inv .2)
 
 same-length : tie.Need-same-length Inv-loop μ-loop
 same-length c = search needs
 
 returns : tie.Need-returns Inv-loop μ-loop
 unfolding wordsFrom
-returns c = read-done (wordsFrom (c .before .before .before .before .args .s .now)) 4 (λ a. refl) (c .before .loop .out) (c .before .before .before .before .args .at) (c .before .before .before .before .args .n) (c .before .loop .i) (search needs) (c .before .loop .inv .2)
+returns c =
+    let args = c .before .before .before .before .args in
+    read-done (wordsFrom (args .s .now)) 4 (λ a. refl) (c .before .loop .out) (args .at) (args .n) (c .before .loop .i) (search needs) (c .before .loop .inv .2)
 
 pub read-words-spec : {M : Type 1} → statement M
 read-words-spec =

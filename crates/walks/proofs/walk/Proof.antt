@@ -26,7 +26,9 @@ cast-t8 : tie.Need-cast-t8
 cast-t8 c = search needs
 
 returns : tie.Need-returns
-returns c = (sheet-says (c .before .before .before .before .before .before .before .before .args .s .now) (c .before .before .before .before .before .before .length-no .result) (c .before .tail-no .result) (c .before .before .before .before .before .line-after .result) (c .before .before .before .before .line-after2 .result) (c .before .before .before .part-after .result) (c .before .before .part-after2 .result) (c .before .before .before .before .before .line-after .ensures) (c .before .before .before .before .line-after2 .ensures) (c .before .before .before .part-after .ensures) (c .before .before .part-after2 .ensures) (c .before .before .before .before .before .before .length-no .ensures) (c .before .tail-no .ensures), sheet-inside (c .before .before .before .before .before .before .before .before .args .s .now) (c .before .before .before .before .before .before .length-no .result) (c .before .tail-no .result) (c .before .before .before .before .before .line-after .result) (c .before .before .before .before .line-after2 .result) (c .before .before .before .part-after .result) (c .before .before .part-after2 .result) (c .before .before .before .before .before .line-after .ensures) (c .before .before .before .before .line-after2 .ensures) (c .before .before .before .part-after .ensures) (c .before .before .part-after2 .ensures) (c .before .tail-no .ensures))
+returns c =
+    let args = c .before .before .before .before .before .before .before .before .args in
+    (sheet-says (args .s .now) (c .before .before .before .before .before .before .length-no .result) (c .before .tail-no .result) (c .before .before .before .before .before .line-after .result) (c .before .before .before .before .line-after2 .result) (c .before .before .before .part-after .result) (c .before .before .part-after2 .result) (c .before .before .before .before .before .line-after .ensures) (c .before .before .before .before .line-after2 .ensures) (c .before .before .before .part-after .ensures) (c .before .before .part-after2 .ensures) (c .before .before .before .before .before .before .length-no .ensures) (c .before .tail-no .ensures), sheet-inside (args .s .now) (c .before .before .before .before .before .before .length-no .result) (c .before .tail-no .result) (c .before .before .before .before .before .line-after .result) (c .before .before .before .before .line-after2 .result) (c .before .before .before .part-after .result) (c .before .before .part-after2 .result) (c .before .before .before .before .before .line-after .ensures) (c .before .before .before .before .line-after2 .ensures) (c .before .before .before .part-after .ensures) (c .before .before .part-after2 .ensures) (c .before .tail-no .ensures))
 
 pub walk-spec : {M : Type 1} → statement M
 walk-spec =

@@ -23,9 +23,10 @@ same-length c = search needs
 
 returns : tie.Need-returns
 returns c =
-    let w = c .before .before .before .before .before .before .before .args .w .now in
+    let args = c .before .before .before .before .before .before .before .args in
+    let w = args .w .now in
     let e = c .before .before .put-words .ensures ∙ ap (λ (l : List ℕ). patch w 0 l) (c .before .before .before .before .before .state-words .ensures .0) in
-    (e, ap isState e ∙ written-state w (c .before .before .before .before .before .before .before .args .st) (c .before .before .before .before .before .state-words .ensures .1))
+    (e, ap isState e ∙ written-state w (args .st) (c .before .before .before .before .before .state-words .ensures .1))
 
 pub put-state-spec : {M : Type 1} → statement M
 put-state-spec =
