@@ -46,15 +46,16 @@ apart-along-requires-2 c κs = search needs
 
 returns-2 : tie.Need-returns-2
 returns-2 c =
-    let pre = c .before .before .before .before .before .before .before .before .before .before .before .before .before .pre in
-    let a = c .before .before .before .before .before .before .before .before .before .before .before .before .before .args in
-    let ca = c .before .before .before .before .before .before .before .before .before .before .chord in
-    let cb = c .before .before .before .before .before .before .before .before .before .chord2 in
+    let b = c .before .before .before .before .before .before in
+    let pre = b .before .before .before .before .before .before .before .pre in
+    let a = b .before .before .before .before .before .before .before .args in
+    let ca = b .before .before .before .before .chord in
+    let cb = b .before .before .before .chord2 in
     let n = c .before .before .before .before .before .normal-of in
     second-axis (n .result) (ca .result) (cb .result) (a .gap) (a .p .now) (a .q .now) (sym (c .before .before .before .before .apart-along .ensures) ∙ c .before .before .before .if1 .left)
     (sym (ap (λ v. apartAlong v (a .gap) (a .p .now) (a .q .now)) (c .before .before .cross .ensures)) ∙ sym (c .before .apart-along2 .ensures) ∙ c .if2 .taken)
-    ∙ separated-is (n .result) (ca .result) (cb .result) (a .gap) (a .p .now) (a .q .now) (c .before .before .before .before .before .before .sub .result) (ca .ensures) (cb .ensures)
-    (between-is _ _ _ (a .p .now) (a .q .now) (c .before .before .before .before .before .before .sub .ensures) (c .before .before .before .before .before .before .before .before .point-at .ensures) (c .before .before .before .before .before .before .before .point-at2 .ensures) (pre .0) (pre .1)) (n .ensures)
+    ∙ separated-is (n .result) (ca .result) (cb .result) (a .gap) (a .p .now) (a .q .now) (b .sub .result) (ca .ensures) (cb .ensures)
+    (between-is _ _ _ (a .p .now) (a .q .now) (b .sub .ensures) (b .before .before .point-at .ensures) (b .before .point-at2 .ensures) (pre .0) (pre .1)) (n .ensures)
 
 cross-requires-2 : tie.Need-cross-requires-2
 cross-requires-2 c κs = search needs
@@ -64,16 +65,17 @@ apart-along-requires-3 c κs = search needs
 
 returns-3 : tie.Need-returns-3
 returns-3 c =
-    let pre = c .before .before .before .before .before .before .before .before .before .before .before .before .before .before .before .pre in
-    let a = c .before .before .before .before .before .before .before .before .before .before .before .before .before .before .before .args in
-    let ca = c .before .before .before .before .before .before .before .before .before .before .before .before .chord in
-    let cb = c .before .before .before .before .before .before .before .before .before .before .before .chord2 in
-    let n = c .before .before .before .before .before .before .before .normal-of in
+    let b = c .before .before .before .before .before .before .before in
+    let pre = b .before .before .before .before .before .before .before .before .pre in
+    let a = b .before .before .before .before .before .before .before .before .args in
+    let ca = b .before .before .before .before .before .chord in
+    let cb = b .before .before .before .before .chord2 in
+    let n = b .normal-of in
     c .apart-along3 .ensures ∙ ap (λ v. apartAlong v (a .gap) (a .p .now) (a .q .now)) (c .before .cross2 .ensures)
     ∙ third-axis (n .result) (ca .result) (cb .result) (a .gap) (a .p .now) (a .q .now) (sym (c .before .before .before .before .before .before .apart-along .ensures) ∙ c .before .before .before .before .before .if1 .left)
     (sym (ap (λ v. apartAlong v (a .gap) (a .p .now) (a .q .now)) (c .before .before .before .before .cross .ensures)) ∙ sym (c .before .before .before .apart-along2 .ensures) ∙ c .before .before .if2 .left)
-    ∙ separated-is (n .result) (ca .result) (cb .result) (a .gap) (a .p .now) (a .q .now) (c .before .before .before .before .before .before .before .before .sub .result) (ca .ensures) (cb .ensures)
-    (between-is _ _ _ (a .p .now) (a .q .now) (c .before .before .before .before .before .before .before .before .sub .ensures) (c .before .before .before .before .before .before .before .before .before .before .point-at .ensures) (c .before .before .before .before .before .before .before .before .before .point-at2 .ensures) (pre .0) (pre .1)) (n .ensures)
+    ∙ separated-is (n .result) (ca .result) (cb .result) (a .gap) (a .p .now) (a .q .now) (b .before .sub .result) (ca .ensures) (cb .ensures)
+    (between-is _ _ _ (a .p .now) (a .q .now) (b .before .sub .ensures) (b .before .before .before .point-at .ensures) (b .before .before .point-at2 .ensures) (pre .0) (pre .1)) (n .ensures)
 
 pub separated-spec : {M : Type 1} → statement M
 separated-spec =

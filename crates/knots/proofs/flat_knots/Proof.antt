@@ -60,12 +60,13 @@ loop-less c = search needs
 
 loop-again : tie.Need-loop-again Inv-loop μ-loop
 loop-again c =
+    let count = c .before .before .before .before .before .count in
     let a = c .before .before .before .before .before .before .before .before .before .before .before .before .args in
     let l = c .before .before .before .before .before .before .before .before .loop in
     let e = tests.total-on (a .mults .now) (l .i) (omega arith) in
-    let k = c .before .before .before .before .before .count .ensures in
+    let k = count .ensures in
     let m = c .before .before .repeat in
-    (search needs, search needs, omega (arith, l .inv .2), laws.flat-rest _ (l .out) (m .last .0) _ (l .at) (c .before .before .before .before .before .count .result) (omega (arith, l .inv .2)) (m .ensures) (l .inv .3), laws.flat-turn (a .knots .now) (a .mults .now) (l .out) (m .last .0) (l .at) (l .i) (c .before .before .before .before .before .count .result) (search needs) (omega arith) (omega (arith, l .inv .2)) k (m .ensures) ∙ l .inv .4)
+    (search needs, search needs, omega (arith, l .inv .2), laws.flat-rest _ (l .out) (m .last .0) _ (l .at) (count .result) (omega (arith, l .inv .2)) (m .ensures) (l .inv .3), laws.flat-turn (a .knots .now) (a .mults .now) (l .out) (m .last .0) (l .at) (l .i) (count .result) (search needs) (omega arith) (omega (arith, l .inv .2)) k (m .ensures) ∙ l .inv .4)
 
 same-length : tie.Need-same-length Inv-loop μ-loop
 same-length c = search needs

@@ -86,12 +86,13 @@ too-large-requires c κs = search needs
 returns-8 : tie.Need-returns-8
 unfolding validateDirection
 returns-8 c =
+    let b = c .before .before .before .before .before .before in
     simp (
-      le-ltb _ _ (c .before .before .before .before .before .before .before .before .before .before .if1 .left),
-      le-ltb _ _ (c .before .before .before .before .before .before .before .before .before .if2 .left),
-      le-ltb _ _ (c .before .before .before .before .before .before .before .before .if3 .left),
-      le-ltb _ _ (c .before .before .before .before .before .before .before .if4 .left),
-      eq-eqb _ _ (c .before .before .before .before .before .before .if5 .left),
+      le-ltb _ _ (b .before .before .before .before .if1 .left),
+      le-ltb _ _ (b .before .before .before .if2 .left),
+      le-ltb _ _ (b .before .before .if3 .left),
+      le-ltb _ _ (b .before .if4 .left),
+      eq-eqb _ _ (b .if5 .left),
       sym (c .before .before .before .before .before .all-within .ensures) ∙ not-false _ (c .before .before .before .before .if6 .left),
       sym (c .before .before .before .increasing .ensures) ∙ not-false _ (c .before .before .if7 .left),
       sym (c .before .too-large .ensures) ∙ (c .if8 .taken),
@@ -103,13 +104,14 @@ all-positive-requires c κs = search needs
 returns-9 : tie.Need-returns-9
 unfolding validateDirection
 returns-9 c =
+    let b = c .before .before .before .before .before .before in
     simp (
-      le-ltb _ _ (c .before .before .before .before .before .before .before .before .before .before .before .before .if1 .left),
-      le-ltb _ _ (c .before .before .before .before .before .before .before .before .before .before .before .if2 .left),
-      le-ltb _ _ (c .before .before .before .before .before .before .before .before .before .before .if3 .left),
-      le-ltb _ _ (c .before .before .before .before .before .before .before .before .before .if4 .left),
-      eq-eqb _ _ (c .before .before .before .before .before .before .before .before .if5 .left),
-      sym (c .before .before .before .before .before .before .before .all-within .ensures) ∙ not-false _ (c .before .before .before .before .before .before .if6 .left),
+      le-ltb _ _ (b .before .before .before .before .before .before .if1 .left),
+      le-ltb _ _ (b .before .before .before .before .before .if2 .left),
+      le-ltb _ _ (b .before .before .before .before .if3 .left),
+      le-ltb _ _ (b .before .before .before .if4 .left),
+      eq-eqb _ _ (b .before .before .if5 .left),
+      sym (b .before .all-within .ensures) ∙ not-false _ (b .if6 .left),
       sym (c .before .before .before .before .before .increasing .ensures) ∙ not-false _ (c .before .before .before .before .if7 .left),
       sym (c .before .before .before .too-large .ensures) ∙ (c .before .before .if8 .left),
       sym (c .before .all-positive .ensures) ∙ not-true _ (c .if9 .taken),
@@ -118,13 +120,14 @@ returns-9 c =
 returns-10 : tie.Need-returns-10
 unfolding validateDirection
 returns-10 c =
+    let b = c .before .before .before .before .before .before in
     simp (
-      le-ltb _ _ (c .before .before .before .before .before .before .before .before .before .before .before .before .if1 .left),
-      le-ltb _ _ (c .before .before .before .before .before .before .before .before .before .before .before .if2 .left),
-      le-ltb _ _ (c .before .before .before .before .before .before .before .before .before .before .if3 .left),
-      le-ltb _ _ (c .before .before .before .before .before .before .before .before .before .if4 .left),
-      eq-eqb _ _ (c .before .before .before .before .before .before .before .before .if5 .left),
-      sym (c .before .before .before .before .before .before .before .all-within .ensures) ∙ not-false _ (c .before .before .before .before .before .before .if6 .left),
+      le-ltb _ _ (b .before .before .before .before .before .before .if1 .left),
+      le-ltb _ _ (b .before .before .before .before .before .if2 .left),
+      le-ltb _ _ (b .before .before .before .before .if3 .left),
+      le-ltb _ _ (b .before .before .before .if4 .left),
+      eq-eqb _ _ (b .before .before .if5 .left),
+      sym (b .before .all-within .ensures) ∙ not-false _ (b .if6 .left),
       sym (c .before .before .before .before .before .increasing .ensures) ∙ not-false _ (c .before .before .before .before .if7 .left),
       sym (c .before .before .before .too-large .ensures) ∙ (c .before .before .if8 .left),
       sym (c .before .all-positive .ensures) ∙ not-false _ (c .if9 .left),

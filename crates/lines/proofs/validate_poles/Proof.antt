@@ -90,12 +90,13 @@ all-within-requires-2 c κs = search needs
 returns-7 : tie.Need-returns-7
 unfolding validatePoles
 returns-7 c =
+    let b = c .before .before .before .before .before .before in
     simp (
-      sym (c .before .before .before .before .before .before .before .before .before .sum .ensures),
-      eq-eqb _ _ (c .before .before .before .before .before .before .before .before .before .before .if1 .left),
-      eq-eqb _ _ (c .before .before .before .before .before .before .before .before .if2 .left),
-      le-ltb _ _ (c .before .before .before .before .before .before .before .if3 .left),
-      le-ltb _ _ (c .before .before .before .before .before .before .if4 .left),
+      sym (b .before .before .before .sum .ensures),
+      eq-eqb _ _ (b .before .before .before .before .if1 .left),
+      eq-eqb _ _ (b .before .before .if2 .left),
+      le-ltb _ _ (b .before .if3 .left),
+      le-ltb _ _ (b .if4 .left),
       sym (c .before .before .before .before .before .weights-fit .ensures) ∙ not-false _ (c .before .before .before .before .if5 .left),
       sym (c .before .before .before .all-within .ensures) ∙ not-false _ (c .before .before .if6 .left),
       sym (c .before .all-within2 .ensures) ∙ not-true _ (c .if7 .taken),
@@ -104,12 +105,13 @@ returns-7 c =
 returns-8 : tie.Need-returns-8
 unfolding validatePoles
 returns-8 c =
+    let b = c .before .before .before .before .before .before in
     simp (
-      sym (c .before .before .before .before .before .before .before .before .before .sum .ensures),
-      eq-eqb _ _ (c .before .before .before .before .before .before .before .before .before .before .if1 .left),
-      eq-eqb _ _ (c .before .before .before .before .before .before .before .before .if2 .left),
-      le-ltb _ _ (c .before .before .before .before .before .before .before .if3 .left),
-      le-ltb _ _ (c .before .before .before .before .before .before .if4 .left),
+      sym (b .before .before .before .sum .ensures),
+      eq-eqb _ _ (b .before .before .before .before .if1 .left),
+      eq-eqb _ _ (b .before .before .if2 .left),
+      le-ltb _ _ (b .before .if3 .left),
+      le-ltb _ _ (b .if4 .left),
       sym (c .before .before .before .before .before .weights-fit .ensures) ∙ not-false _ (c .before .before .before .before .if5 .left),
       sym (c .before .before .before .all-within .ensures) ∙ not-false _ (c .before .before .if6 .left),
       sym (c .before .all-within2 .ensures) ∙ not-false _ (c .if7 .left),

@@ -42,8 +42,9 @@ same-length-7 c = search needs
 
 returns-2 : tie.Need-returns-2
 returns-2 c =
-    let args = c .before .before .before .before .before .before .before .before .before .before .before .before .before .before .before .before .before .before .before .before .before .before .before .before .before .before .before .before .before .before .before .before .before .before .before .before .before .before .before .before .args in
-    (open-is (questionOf (record { lo1 = args .lo1; hi1 = args .hi1; lo2 = args .lo2; hi2 = args .hi2; gap = args .gap; splits = args .splits }) (lineOf (args .degree1) (args .knots1 .now) (args .mults1 .now) (args .coords1 .now) (args .weights1 .now)) (lineOf (args .degree2) (args .knots2 .now) (args .mults2 .now) (args .coords2 .now) (args .weights2 .now))) (args .pieces1 .now) (args .pieces2 .now) (memory (args .nets1 .now) (args .nets2 .now) (args .ranges .now) (args .depths .now) (args .raw .now)) (args .state .now) (le-leb _ _ (c .before .before .before .before .before .before .before .before .before .before .before .before .before .before .before .before .before .before .before .before .before .before .before .if1 .left)) (c .before .before .before .before .before .before .before .before .before .before .before .before .before .before .before .before .«open» .ensures) (c .before .before .put-opened .ensures .0 .0) (c .before .before .put-opened .ensures .0 .1), open-zero (questionOf (record { lo1 = args .lo1; hi1 = args .hi1; lo2 = args .lo2; hi2 = args .hi2; gap = args .gap; splits = args .splits }) (lineOf (args .degree1) (args .knots1 .now) (args .mults1 .now) (args .coords1 .now) (args .weights1 .now)) (lineOf (args .degree2) (args .knots2 .now) (args .mults2 .now) (args .coords2 .now) (args .weights2 .now))) (args .pieces1 .now) (args .pieces2 .now) (memory (args .nets1 .now) (args .nets2 .now) (args .ranges .now) (args .depths .now) (args .raw .now)) _ (c .before .before .before .before .before .before .before .before .before .before .before .before .before .before .before .before .«open» .ensures) (c .before .before .put-opened .ensures .0 .0) (c .before .before .put-opened .ensures .1))
+    let b = c .before .before .before .before .before .before .before .before .before .before .before .before .before .before .before .before in
+    let args = b .before .before .before .before .before .before .before .before .before .before .before .before .before .before .before .before .before .before .before .before .before .before .before .before .args in
+    (open-is (questionOf (record { lo1 = args .lo1; hi1 = args .hi1; lo2 = args .lo2; hi2 = args .hi2; gap = args .gap; splits = args .splits }) (lineOf (args .degree1) (args .knots1 .now) (args .mults1 .now) (args .coords1 .now) (args .weights1 .now)) (lineOf (args .degree2) (args .knots2 .now) (args .mults2 .now) (args .coords2 .now) (args .weights2 .now))) (args .pieces1 .now) (args .pieces2 .now) (memory (args .nets1 .now) (args .nets2 .now) (args .ranges .now) (args .depths .now) (args .raw .now)) (args .state .now) (le-leb _ _ (b .before .before .before .before .before .before .before .if1 .left)) (b .«open» .ensures) (c .before .before .put-opened .ensures .0 .0) (c .before .before .put-opened .ensures .0 .1), open-zero (questionOf (record { lo1 = args .lo1; hi1 = args .hi1; lo2 = args .lo2; hi2 = args .hi2; gap = args .gap; splits = args .splits }) (lineOf (args .degree1) (args .knots1 .now) (args .mults1 .now) (args .coords1 .now) (args .weights1 .now)) (lineOf (args .degree2) (args .knots2 .now) (args .mults2 .now) (args .coords2 .now) (args .weights2 .now))) (args .pieces1 .now) (args .pieces2 .now) (memory (args .nets1 .now) (args .nets2 .now) (args .ranges .now) (args .depths .now) (args .raw .now)) _ (b .«open» .ensures) (c .before .before .put-opened .ensures .0 .0) (c .before .before .put-opened .ensures .1))
 
 pub lovgurshem-open-spec : {M : Type 1} → statement M
 lovgurshem-open-spec =

@@ -41,8 +41,9 @@ same-length-3 c = search needs
 
 returns-3 : tie.Need-returns-3
 returns-3 c =
-    let args = c .before .before .before .before .before .before .before .before .before .before .before .before .before .before .before .before .before .before .before .before .before .before .before .args in
-    report-is (args .state .now) (args .gap) (memory (args .nets1 .now) (args .nets2 .now) (args .ranges .now) (args .depths .now) (args .raw .now)) (args .report .now) (args .counts .now) (sym (c .before .before .before .before .before .before .before .before .before .before .before .before .before .before .is-state .ensures) ∙ not-false _ (c .before .before .before .before .before .before .before .before .before .before .before .before .before .if1 .left)) (le-leb _ _ (c .before .before .before .before .before .before .before .before .before .before .before .before .if2 .left)) (c .before .before .before .before .before .before .before .before .before .before .before .read-state .ensures) (c .before .before .before .before .before .before .before .before .report .ensures) (c .before .before .put-report .ensures .0) (c .before .before .put-report .ensures .1)
+    let b = c .before .before .before .before .before .before .before .before .before .before .before in
+    let args = b .before .before .before .before .before .before .before .before .before .before .before .before .args in
+    report-is (args .state .now) (args .gap) (memory (args .nets1 .now) (args .nets2 .now) (args .ranges .now) (args .depths .now) (args .raw .now)) (args .report .now) (args .counts .now) (sym (b .before .before .before .is-state .ensures) ∙ not-false _ (b .before .before .if1 .left)) (le-leb _ _ (b .before .if2 .left)) (b .read-state .ensures) (c .before .before .before .before .before .before .before .before .report .ensures) (c .before .before .put-report .ensures .0) (c .before .before .put-report .ensures .1)
 
 pub lovgurshem-report-spec : {M : Type 1} → statement M
 lovgurshem-report-spec =

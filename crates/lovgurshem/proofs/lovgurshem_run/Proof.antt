@@ -26,7 +26,9 @@ run-requires : tie.Need-run-requires
 run-requires c κs = search needs
 
 put-next-requires : tie.Need-put-next-requires
-put-next-requires c κs = within (c .before .before .before .before .before .before .before .before .before .before .before .before .before .before .before .before .before .before .before .before .before .before .before .before .before .before .before .before .args .state .now) (sym (c .before .before .before .before .before .before .before .before .before .before .before .before .before .before .before .before .before .before .before .before .is-state .ensures) ∙ not-false _ (c .before .before .before .before .before .before .before .before .before .before .before .before .before .before .before .before .before .before .before .if1 .left)) .long
+put-next-requires c κs =
+    let b = c .before .before .before .before .before .before .before .before .before .before .before .before .before .before .before .before .before .before .before in
+    within (b .before .before .before .before .before .before .before .before .before .args .state .now) (sym (b .before .is-state .ensures) ∙ not-false _ (b .if1 .left)) .long
 
 same-length-2 : tie.Need-same-length-2
 same-length-2 c = search needs
@@ -48,8 +50,9 @@ same-length-7 c = search needs
 
 returns-2 : tie.Need-returns-2
 returns-2 c =
-    let args = c .before .before .before .before .before .before .before .before .before .before .before .before .before .before .before .before .before .before .before .before .before .before .before .before .before .before .before .before .before .before .before .args in
-    (run-is (args .state .now) (args .gap) (memory (args .nets1 .now) (args .nets2 .now) (args .ranges .now) (args .depths .now) (args .raw .now)) (sym (c .before .before .before .before .before .before .before .before .before .before .before .before .before .before .before .before .before .before .before .before .before .before .before .is-state .ensures) ∙ not-false _ (c .before .before .before .before .before .before .before .before .before .before .before .before .before .before .before .before .before .before .before .before .before .before .if1 .left)) (c .before .before .before .before .before .before .before .before .before .before .before .before .before .before .before .before .before .before .before .before .read-state .ensures) (c .before .before .before .before .before .before .before .before .before .before .before .before .before .before .run .ensures) (c .before .before .put-next .ensures .0 .0) (c .before .before .put-next .ensures .0 .1), stays _ (sym (c .before .before .before .before .before .before .before .before .before .before .before .before .before .before .before .before .before .before .before .before .before .before .before .is-state .ensures) ∙ not-false _ (c .before .before .before .before .before .before .before .before .before .before .before .before .before .before .before .before .before .before .before .before .before .before .if1 .left)) (c .before .before .put-next .ensures .1))
+    let b = c .before .before .before .before .before .before .before .before .before .before .before .before .before .before .before .before .before .before .before .before in
+    let args = b .before .before .before .before .before .before .before .before .before .before .before .args in
+    (run-is (args .state .now) (args .gap) (memory (args .nets1 .now) (args .nets2 .now) (args .ranges .now) (args .depths .now) (args .raw .now)) (sym (b .before .before .before .is-state .ensures) ∙ not-false _ (b .before .before .if1 .left)) (b .read-state .ensures) (c .before .before .before .before .before .before .before .before .before .before .before .before .before .before .run .ensures) (c .before .before .put-next .ensures .0 .0) (c .before .before .put-next .ensures .0 .1), stays _ (sym (b .before .before .before .is-state .ensures) ∙ not-false _ (b .before .before .if1 .left)) (c .before .before .put-next .ensures .1))
 
 pub lovgurshem-run-spec : {M : Type 1} → statement M
 lovgurshem-run-spec =

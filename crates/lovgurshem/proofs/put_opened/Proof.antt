@@ -45,7 +45,8 @@ returns c = (opened-put (c .before .before .before .before .before .before .befo
 returns-2 : tie.Need-returns-2
 returns-2 c =
     let args = c .before .before .before .before .before .before .args in
-    (opened-put (args .w .now) _ (c .before .before .before .o2 .given .1) (c .numbered .ensures ∙ (λ i. c .before .admission-number .ensures i + 256 * c .before .before .before .o2 .given .0 .0)) refl, opened-state (args .w .now) _ (c .before .before .before .o2 .given .1) tt)
+    let o2 = c .before .before .before .o2 in
+    (opened-put (args .w .now) _ (o2 .given .1) (c .numbered .ensures ∙ (λ i. c .before .admission-number .ensures i + 256 * o2 .given .0 .0)) refl, opened-state (args .w .now) _ (o2 .given .1) tt)
 
 returns-3 : tie.Need-returns-3
 returns-3 c =

@@ -46,11 +46,12 @@ same-length-4 c = search needs
 
 returns : tie.Need-returns
 returns c =
-    let args = c .before .before .before .before .before .before .before .before .before .before .before .before .before .before .before .before .before .before .before .before .before .before .before .before .args in
-    let s = c .before .before .before .before .before .before .before .before .before .before .before .before .before .before .before .before .before .before .before .second-halved .ensures in (
+    let z = c .before .before .before .before .before .before .before .before .before .before .before in
+    let args = z .before .before .before .before .before .before .before .before .before .before .before .before .before .args in
+    let s = z .before .before .before .before .before .before .before .before .second-halved .ensures in (
       c .halved .ensures,
-      c .before .before .before .before .before .before .before .before .before .before .before .before .before .before .before .before .split-net .ensures ∙ ap (λ (b : Bool). slotsAfter (not b) (args .st .width1) (args .k) (args .nets1 .now)) s,
-      c .before .before .before .before .before .before .before .before .before .before .before .split-net2 .ensures ∙ ap (λ (b : Bool). slotsAfter b (args .st .width2) (args .k) (args .nets2 .now)) s,
+      z .before .before .before .before .before .split-net .ensures ∙ ap (λ (b : Bool). slotsAfter (not b) (args .st .width1) (args .k) (args .nets1 .now)) s,
+      z .split-net2 .ensures ∙ ap (λ (b : Bool). slotsAfter b (args .st .width2) (args .k) (args .nets2 .now)) s,
       c .before .before .before .before .before .before .before .split-ranges .ensures ∙ ap (λ (b : Bool). rangesAfter b (args .k) (args .ranges .now)) s,
       c .before .before .before .deepen .ensures,
     )

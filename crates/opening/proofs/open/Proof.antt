@@ -81,13 +81,14 @@ pieces-fit-requires c κs =
 
 returns-4 : tie.Need-returns-4
 returns-4 c =
-    let args = c .before .before .before .before .before .before .before .before .before .before .before .before .before .before .before .before .before .before .before .before .before .before .before .before .before .before .args in
+    let b = c .before .before .before .before .before .before in
+    let args = b .before .before .before .before .before .before .before .before .before .before .before .before .before .before .before .before .before .before .before .before .args in
     let l1 = lineOf (args .degree1) (args .knots1 .now) (args .mults1 .now) (args .coords1 .now) (args .weights1 .now) in
     let l2 = lineOf (args .degree2) (args .knots2 .now) (args .mults2 .now) (args .coords2 .now) (args .weights2 .now) in
     let q = questionOf (args .q) l1 l2 in
     let u = memory (args .nets1 .now) (args .nets2 .now) (args .ranges .now) (args .depths .now) (args .raw .now) in
-    let ok1 : isAdmitted (admission l1) ≡ true = is-zero _ _ (c .before .before .before .before .before .before .before .before .before .admission-number .ensures ∙ ap admissionNumber (c .before .before .before .before .before .before .before .before .before .before .admit .ensures)) (c .before .before .before .before .before .before .before .before .if1 .left) in
-    let ok2 : isAdmitted (admission l2) ≡ true = is-zero _ _ (c .before .before .before .before .before .before .admission-number2 .ensures ∙ ap admissionNumber (c .before .before .before .before .before .before .before .admit2 .ensures)) (c .before .before .before .before .before .if2 .left) in
+    let ok1 : isAdmitted (admission l1) ≡ true = is-zero _ _ (b .before .before .before .admission-number .ensures ∙ ap admissionNumber (b .before .before .before .before .admit .ensures)) (b .before .before .if1 .left) in
+    let ok2 : isAdmitted (admission l2) ≡ true = is-zero _ _ (b .admission-number2 .ensures ∙ ap admissionNumber (b .before .admit2 .ensures)) (c .before .before .before .before .before .if2 .left) in
     let ok3 : isFine (asked q) ≡ true = is-zero _ _ (c .before .before .before .asked-number .ensures ∙ ap askedNumber (c .before .before .before .before .ask .ensures)) (c .before .before .if3 .left) in
     no-room q (args .pieces1 .now) (args .pieces2 .now) u ok1 ok2 ok3 (sym (and-not _ _ _ (c .before .pieces-fit .ensures) (not-true _ (c .if4 .taken))))
 
@@ -101,28 +102,30 @@ pieces-fit-requires-2 c κs =
 
 returns-5 : tie.Need-returns-5
 returns-5 c =
-    let args = c .before .before .before .before .before .before .before .before .before .before .before .before .before .before .before .before .before .before .before .before .before .before .before .before .before .before .before .before .args in
+    let b = c .before .before .before .before .before .before in
+    let args = b .before .before .before .before .before .before .before .before .before .before .before .before .before .before .before .before .before .before .before .before .before .before .args in
     let l1 = lineOf (args .degree1) (args .knots1 .now) (args .mults1 .now) (args .coords1 .now) (args .weights1 .now) in
     let l2 = lineOf (args .degree2) (args .knots2 .now) (args .mults2 .now) (args .coords2 .now) (args .weights2 .now) in
     let q = questionOf (args .q) l1 l2 in
     let u = memory (args .nets1 .now) (args .nets2 .now) (args .ranges .now) (args .depths .now) (args .raw .now) in
-    let ok1 : isAdmitted (admission l1) ≡ true = is-zero _ _ (c .before .before .before .before .before .before .before .before .before .before .before .admission-number .ensures ∙ ap admissionNumber (c .before .before .before .before .before .before .before .before .before .before .before .before .admit .ensures)) (c .before .before .before .before .before .before .before .before .before .before .if1 .left) in
-    let ok2 : isAdmitted (admission l2) ≡ true = is-zero _ _ (c .before .before .before .before .before .before .before .before .admission-number2 .ensures ∙ ap admissionNumber (c .before .before .before .before .before .before .before .before .before .admit2 .ensures)) (c .before .before .before .before .before .before .before .if2 .left) in
-    let ok3 : isFine (asked q) ≡ true = is-zero _ _ (c .before .before .before .before .before .asked-number .ensures ∙ ap askedNumber (c .before .before .before .before .before .before .ask .ensures)) (c .before .before .before .before .if3 .left) in
+    let ok1 : isAdmitted (admission l1) ≡ true = is-zero _ _ (b .before .before .before .before .before .admission-number .ensures ∙ ap admissionNumber (b .before .before .before .before .before .before .admit .ensures)) (b .before .before .before .before .if1 .left) in
+    let ok2 : isAdmitted (admission l2) ≡ true = is-zero _ _ (b .before .before .admission-number2 .ensures ∙ ap admissionNumber (b .before .before .before .admit2 .ensures)) (b .before .if2 .left) in
+    let ok3 : isFine (asked q) ≡ true = is-zero _ _ (c .before .before .before .before .before .asked-number .ensures ∙ ap askedNumber (b .ask .ensures)) (c .before .before .before .before .if3 .left) in
     let fit1 = c .before .before .before .pieces-fit .ensures in
     let yes1 = not-false _ (c .before .before .if4 .left) in
     no-room q (args .pieces1 .now) (args .pieces2 .now) u ok1 ok2 ok3 (sym (and-then _ _ _ _ fit1 yes1 (sym (not-true _ (c .if5 .taken)) ∙ c .before .pieces-fit2 .ensures)))
 
 open-pieces-requires : tie.Need-open-pieces-requires
 open-pieces-requires c κs =
-    let args = c .before .before .before .before .before .before .before .before .before .before .before .before .before .before .before .before .before .before .before .before .before .before .before .before .before .before .before .before .before .before .before .before .before .before .args in
+    let b = c .before .before .before .before .before .before .before .before .before in
+    let args = b .before .before .before .before .before .before .before .before .before .before .before .before .before .before .before .before .before .before .before .before .before .before .before .before .before .args in
     let l1 = lineOf (args .degree1) (args .knots1 .now) (args .mults1 .now) (args .coords1 .now) (args .weights1 .now) in
     let l2 = lineOf (args .degree2) (args .knots2 .now) (args .mults2 .now) (args .coords2 .now) (args .weights2 .now) in
     let q = questionOf (args .q) l1 l2 in
-    let ok1 : isAdmitted (admission l1) ≡ true = is-zero _ _ (c .before .before .before .before .before .before .before .before .before .before .before .before .before .before .before .before .before .admission-number .ensures ∙ ap admissionNumber (c .before .before .before .before .before .before .before .before .before .before .before .before .before .before .before .before .before .before .admit .ensures)) (c .before .before .before .before .before .before .before .before .before .before .before .before .before .before .before .before .if1 .left) in
-    let ok2 : isAdmitted (admission l2) ≡ true = is-zero _ _ (c .before .before .before .before .before .before .before .before .before .before .before .before .before .before .admission-number2 .ensures ∙ ap admissionNumber (c .before .before .before .before .before .before .before .before .before .before .before .before .before .before .before .admit2 .ensures)) (c .before .before .before .before .before .before .before .before .before .before .before .before .before .if2 .left) in
-    let ok3 : isFine (asked q) ≡ true = is-zero _ _ (c .before .before .before .before .before .before .before .before .before .before .before .asked-number .ensures ∙ ap askedNumber (c .before .before .before .before .before .before .before .before .before .before .before .before .ask .ensures)) (c .before .before .before .before .before .before .before .before .before .before .if3 .left) in
-    let fit1 = c .before .before .before .before .before .before .before .before .before .pieces-fit .ensures in
+    let ok1 : isAdmitted (admission l1) ≡ true = is-zero _ _ (b .before .before .before .before .before .before .before .before .admission-number .ensures ∙ ap admissionNumber (b .before .before .before .before .before .before .before .before .before .admit .ensures)) (b .before .before .before .before .before .before .before .if1 .left) in
+    let ok2 : isAdmitted (admission l2) ≡ true = is-zero _ _ (b .before .before .before .before .before .admission-number2 .ensures ∙ ap admissionNumber (b .before .before .before .before .before .before .admit2 .ensures)) (b .before .before .before .before .if2 .left) in
+    let ok3 : isFine (asked q) ≡ true = is-zero _ _ (b .before .before .asked-number .ensures ∙ ap askedNumber (b .before .before .before .ask .ensures)) (b .before .if3 .left) in
+    let fit1 = b .pieces-fit .ensures in
     let yes1 = not-false _ (c .before .before .before .before .before .before .before .before .if4 .left) in
     let fit2 = c .before .before .before .before .before .before .before .pieces-fit2 .ensures in
     let yes2 = not-false _ (c .before .before .before .before .before .before .if5 .left) in
@@ -148,18 +151,19 @@ same-length-6 c = search needs
 
 returns-6 : tie.Need-returns-6
 returns-6 c =
-    let args = c .before .before .before .before .before .before .before .before .before .before .before .before .before .before .before .before .before .before .before .before .before .before .before .before .before .before .before .before .before .before .before .before .before .before .before .before .before .before .before .before .before .before .before .before .before .before .before .args in
+    let b = c .before .before .before .before .before .before .before .before .before .before .before .before .before .before .before .before .before .before .before in
+    let args = b .before .before .before .before .before .before .before .before .before .before .before .before .before .before .before .before .before .before .before .before .before .before .before .before .before .before .before .before .args in
     let l1 = lineOf (args .degree1) (args .knots1 .now) (args .mults1 .now) (args .coords1 .now) (args .weights1 .now) in
     let l2 = lineOf (args .degree2) (args .knots2 .now) (args .mults2 .now) (args .coords2 .now) (args .weights2 .now) in
     let q = questionOf (args .q) l1 l2 in
     let u = memory (args .nets1 .now) (args .nets2 .now) (args .ranges .now) (args .depths .now) (args .raw .now) in
-    let ok1 : isAdmitted (admission l1) ≡ true = is-zero _ _ (c .before .before .before .before .before .before .before .before .before .before .before .before .before .before .before .before .before .before .before .before .before .before .before .before .before .before .before .before .before .before .admission-number .ensures ∙ ap admissionNumber (c .before .before .before .before .before .before .before .before .before .before .before .before .before .before .before .before .before .before .before .before .before .before .before .before .before .before .before .before .before .before .before .admit .ensures)) (c .before .before .before .before .before .before .before .before .before .before .before .before .before .before .before .before .before .before .before .before .before .before .before .before .before .before .before .before .before .if1 .left) in
-    let ok2 : isAdmitted (admission l2) ≡ true = is-zero _ _ (c .before .before .before .before .before .before .before .before .before .before .before .before .before .before .before .before .before .before .before .before .before .before .before .before .before .before .before .admission-number2 .ensures ∙ ap admissionNumber (c .before .before .before .before .before .before .before .before .before .before .before .before .before .before .before .before .before .before .before .before .before .before .before .before .before .before .before .before .admit2 .ensures)) (c .before .before .before .before .before .before .before .before .before .before .before .before .before .before .before .before .before .before .before .before .before .before .before .before .before .before .if2 .left) in
-    let ok3 : isFine (asked q) ≡ true = is-zero _ _ (c .before .before .before .before .before .before .before .before .before .before .before .before .before .before .before .before .before .before .before .before .before .before .before .before .asked-number .ensures ∙ ap askedNumber (c .before .before .before .before .before .before .before .before .before .before .before .before .before .before .before .before .before .before .before .before .before .before .before .before .before .ask .ensures)) (c .before .before .before .before .before .before .before .before .before .before .before .before .before .before .before .before .before .before .before .before .before .before .before .if3 .left) in
-    let fit1 = c .before .before .before .before .before .before .before .before .before .before .before .before .before .before .before .before .before .before .before .before .before .before .pieces-fit .ensures in
-    let yes1 = not-false _ (c .before .before .before .before .before .before .before .before .before .before .before .before .before .before .before .before .before .before .before .before .before .if4 .left) in
-    let fit2 = c .before .before .before .before .before .before .before .before .before .before .before .before .before .before .before .before .before .before .before .before .pieces-fit2 .ensures in
-    let yes2 = not-false _ (c .before .before .before .before .before .before .before .before .before .before .before .before .before .before .before .before .before .before .before .if5 .left) in
+    let ok1 : isAdmitted (admission l1) ≡ true = is-zero _ _ (b .before .before .before .before .before .before .before .before .before .before .before .admission-number .ensures ∙ ap admissionNumber (b .before .before .before .before .before .before .before .before .before .before .before .before .admit .ensures)) (b .before .before .before .before .before .before .before .before .before .before .if1 .left) in
+    let ok2 : isAdmitted (admission l2) ≡ true = is-zero _ _ (b .before .before .before .before .before .before .before .before .admission-number2 .ensures ∙ ap admissionNumber (b .before .before .before .before .before .before .before .before .before .admit2 .ensures)) (b .before .before .before .before .before .before .before .if2 .left) in
+    let ok3 : isFine (asked q) ≡ true = is-zero _ _ (b .before .before .before .before .before .asked-number .ensures ∙ ap askedNumber (b .before .before .before .before .before .before .ask .ensures)) (b .before .before .before .before .if3 .left) in
+    let fit1 = b .before .before .before .pieces-fit .ensures in
+    let yes1 = not-false _ (b .before .before .if4 .left) in
+    let fit2 = b .before .pieces-fit2 .ensures in
+    let yes2 = not-false _ (b .if5 .left) in
     opened-is q (args .pieces1 .now) (args .pieces2 .now) u ok1 ok2 ok3 (sym (and-then _ _ _ _ fit1 yes1 (sym yes2 ∙ fit2))) _ (c .before .before .before .before .before .before .before .before .before .before .before .before .open-pieces .ensures)
 
 pub open-spec : {M : Type 1} → statement M

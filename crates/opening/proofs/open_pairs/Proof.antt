@@ -48,7 +48,9 @@ array-share-prefix-b1 : tie.Need-array-share-prefix-b1
 array-share-prefix-b1 c = search needs
 
 slice-aggregate-push : tie.Need-slice-aggregate-push
-slice-aggregate-push c = used-length (c .before .before .before .before .before .before .before .breaks .result) (c .before .before .before .before .before .before .before .breaks .last .1 .1 .1 .0) (omega (arith, c .before .before .before .before .before .before .before .breaks .kept .1 .1 .1 .0, c .before .before .before .before .before .before .before .before .before .before .break-room .ensures, c .before .before .before .before .before .before .before .breaks .ensures .4))
+slice-aggregate-push c =
+    let b = c .before .before .before .before .before .before .before in
+    used-length (b .breaks .result) (b .breaks .last .1 .1 .1 .0) (omega (arith, b .breaks .kept .1 .1 .1 .0, b .before .before .before .break-room .ensures, b .breaks .ensures .4))
 
 sub-push-2 : tie.Need-sub-push-2
 sub-push-2 c = search needs
@@ -57,20 +59,24 @@ array-share-prefix-b2 : tie.Need-array-share-prefix-b2
 array-share-prefix-b2 c = search needs
 
 slice-aggregate-push-2 : tie.Need-slice-aggregate-push-2
-slice-aggregate-push-2 c = used-length (c .before .before .before .before .before .breaks2 .result) (c .before .before .before .before .before .breaks2 .last .1 .1 .1 .0) (omega (arith, c .before .before .before .before .before .breaks2 .kept .1 .1 .1 .0, c .before .before .before .before .before .before .before .before .before .before .break-room2 .ensures, c .before .before .before .before .before .breaks2 .ensures .4))
+slice-aggregate-push-2 c =
+    let breaks2 = c .before .before .before .before .before .breaks2 in
+    used-length (breaks2 .result) (breaks2 .last .1 .1 .1 .0) (omega (arith, breaks2 .kept .1 .1 .1 .0, c .before .before .before .before .before .before .before .before .before .before .break-room2 .ensures, breaks2 .ensures .4))
 
 push-requires : tie.Need-push-requires
 push-requires c κs =
-    let args = c .before .before .before .before .before .before .before .before .before .before .before .before .before .before .before .before .before .before .before .before .before .before .before .before .before .args in
-    let pre = c .before .before .before .before .before .before .before .before .before .before .before .before .before .before .before .before .before .before .before .before .before .before .before .before .before .pre in
-    let k1 = c .before .before .before .before .before .before .before .before .before .before .before .before .breaks .ensures .4 in
-    let k2 = c .before .before .before .before .before .before .before .before .before .breaks2 .ensures .4 in
+    let b = c .before .before .before .before .before .before .before .before .before .before .before .before in
+    let args = b .before .before .before .before .before .before .before .before .before .before .before .before .before .args in
+    let pre = b .before .before .before .before .before .before .before .before .before .before .before .before .before .pre in
+    let breaks2 = c .before .before .before .before .before .before .before .before .before .breaks2 in
+    let k1 = b .breaks .ensures .4 in
+    let k2 = breaks2 .ensures .4 in
     let l1 = pre .0 .0 in
     let l2 = pre .0 .1 in (
       (omega arith, omega arith, omega (arith, c .before .before .before .before .before .before .before .count .ensures, pre .0 .2), omega (arith, c .before .before .before .before .before .before .count2 .ensures, pre .0 .3), pre .0 .4),
       (
-        has-pieces (c .before .before .before .before .before .before .before .before .before .before .before .before .breaks .result) _ (args .degree1) (args .pieces1 .now) (c .before .before .before .before .before .before .before .before .before .before .before .before .breaks .last .1 .1 .1 .0) (breaksOf (args .q .lo1) (args .q .hi1) (args .knots1 .now)) (c .before .before .before .before .before .before .before .before .before .before .before .before .breaks .ensures .0) (c .before .before .before .before .before .before .before .before .before .before .before .before .breaks .ensures .2) (c .before .before .before .before .before .before .before .before .before .before .before .before .breaks .ensures .3) (ap (λ (n : ℕ). n + 1) (c .before .before .before .before .before .before .before .count .ensures)) (pre .1 .0),
-        has-pieces (c .before .before .before .before .before .before .before .before .before .breaks2 .result) _ (args .degree2) (args .pieces2 .now) (c .before .before .before .before .before .before .before .before .before .breaks2 .last .1 .1 .1 .0) (breaksOf (args .q .lo2) (args .q .hi2) (args .knots2 .now)) (c .before .before .before .before .before .before .before .before .before .breaks2 .ensures .0) (c .before .before .before .before .before .before .before .before .before .breaks2 .ensures .2) (c .before .before .before .before .before .before .before .before .before .breaks2 .ensures .3) (ap (λ (n : ℕ). n + 1) (c .before .before .before .before .before .before .count2 .ensures)) (pre .1 .1),
+        has-pieces (b .breaks .result) _ (args .degree1) (args .pieces1 .now) (b .breaks .last .1 .1 .1 .0) (breaksOf (args .q .lo1) (args .q .hi1) (args .knots1 .now)) (b .breaks .ensures .0) (b .breaks .ensures .2) (b .breaks .ensures .3) (ap (λ (n : ℕ). n + 1) (c .before .before .before .before .before .before .before .count .ensures)) (pre .1 .0),
+        has-pieces (breaks2 .result) _ (args .degree2) (args .pieces2 .now) (breaks2 .last .1 .1 .1 .0) (breaksOf (args .q .lo2) (args .q .hi2) (args .knots2 .now)) (breaks2 .ensures .0) (breaks2 .ensures .2) (breaks2 .ensures .3) (ap (λ (n : ℕ). n + 1) (c .before .before .before .before .before .before .count2 .ensures)) (pre .1 .1),
       ),
     )
 
@@ -88,8 +94,9 @@ same-length-4 c = search needs
 
 returns : tie.Need-returns
 returns c =
-    let args = c .before .before .before .before .before .before .before .before .before .before .before .before .before .before .before .before .before .before .before .before .before .before .before .before .before .before .before .before .before .before .before .before .before .before .args in
-    c .before .before .before .before .before .before .before .before .push .ensures ∙ (λ i. pushPairs (args .q .splits) (args .q .gap) (pieces (c .before .before .before .before .before .before .before .before .before .before .before .before .before .before .before .before .count .ensures i + 1) (args .pieces1 .now) (c .before .before .before .before .before .before .before .before .before .before .before .before .before .before .before .before .before .before .before .before .before .breaks .ensures .2 i)) (pieces (c .before .before .before .before .before .before .before .before .before .before .before .before .before .before .before .count2 .ensures i + 1) (args .pieces2 .now) (c .before .before .before .before .before .before .before .before .before .before .before .before .before .before .before .before .before .before .breaks2 .ensures .2 i)) (c .before .before .before .before .before .before .before .before .before .before .before .before .before .before .before .before .before .before .before .before .before .breaks .ensures .0 i - 1) (c .before .before .before .before .before .before .before .before .before .before .before .before .before .before .before .before .before .before .breaks2 .ensures .0 i - 1) (memory (args .nets1 .now) (args .nets2 .now) (args .ranges .now) (args .depths .now) (args .raw .now)))
+    let b = c .before .before .before .before .before .before .before .before .before .before .before .before .before .before .before in
+    let args = b .before .before .before .before .before .before .before .before .before .before .before .before .before .before .before .before .before .before .before .args in
+    c .before .before .before .before .before .before .before .before .push .ensures ∙ (λ i. pushPairs (args .q .splits) (args .q .gap) (pieces (b .before .count .ensures i + 1) (args .pieces1 .now) (b .before .before .before .before .before .before .breaks .ensures .2 i)) (pieces (b .count2 .ensures i + 1) (args .pieces2 .now) (b .before .before .before .breaks2 .ensures .2 i)) (b .before .before .before .before .before .before .breaks .ensures .0 i - 1) (b .before .before .before .breaks2 .ensures .0 i - 1) (memory (args .nets1 .now) (args .nets2 .now) (args .ranges .now) (args .depths .now) (args .raw .now)))
 
 pub open-pairs-spec : {M : Type 1} → statement M
 open-pairs-spec =

@@ -16,12 +16,13 @@ curve-pieces-requires-2 c κs = search needs
 
 open-pairs-requires : tie.Need-open-pairs-requires
 open-pairs-requires c κs =
-    let args = c .before .before .before .before .before .before .before .before .before .before .before .before .before .before .before .before .before .before .before .before .before .before .before .before .before .before .before .before .before .args in
-    let pre = c .before .before .before .before .before .before .before .before .before .before .before .before .before .before .before .before .before .before .before .before .before .before .before .before .before .before .before .before .before .pre in
+    let z = c .before .before .before .before .before .before .before .before in
+    let args = z .before .before .before .before .before .before .before .before .before .before .before .before .before .before .before .before .before .before .before .before .before .args in
+    let pre = z .before .before .before .before .before .before .before .before .before .before .before .before .before .before .before .before .before .before .before .before .before .pre in
     let a = (counts (args .degree1) (args .knots1 .now) (args .mults1 .now) (args .coords1 .now) (args .weights1 .now) (pre .0)) in
     let b = (counts (args .degree2) (args .knots2 .now) (args .mults2 .now) (args .coords2 .now) (args .weights2 .now) (pre .1 .0)) in
-    let l1 = c .before .before .before .before .before .before .before .before .before .before .before .before .curve-pieces .kept .1 .1 .1 .1 .1 .1 .1 .0 in
-    let l2 = c .before .before .before .before .before .before .before .before .curve-pieces2 .kept .1 .1 .1 .1 .1 .1 .1 .0 in
+    let l1 = z .before .before .before .before .curve-pieces .kept .1 .1 .1 .1 .1 .1 .1 .0 in
+    let l2 = z .curve-pieces2 .kept .1 .1 .1 .1 .1 .1 .1 .0 in
     ((a .few-knots, b .few-knots, a .most, b .most, pre .1 .1 .0), (omega (arith, l1, pre .1 .1 .1), omega (arith, l2, pre .1 .1 .2)))
 
 same-length : tie.Need-same-length
@@ -44,8 +45,9 @@ same-length-6 c = search needs
 
 returns : tie.Need-returns
 returns c =
-    let args = c .before .before .before .before .before .before .before .before .before .before .before .before .before .before .before .before .before .before .before .before .before .before .before .before .before .before .before .before .before .before .before .before .before .before .before .before .before .before .args in
-    pieces-opened (questionOf (args .q) (lineOf (args .degree1) (args .knots1 .now) (args .mults1 .now) (args .coords1 .now) (args .weights1 .now)) (lineOf (args .degree2) (args .knots2 .now) (args .mults2 .now) (args .coords2 .now) (args .weights2 .now))) (args .pieces1 .now) (args .pieces2 .now) (memory (args .nets1 .now) (args .nets2 .now) (args .ranges .now) (args .depths .now) (args .raw .now)) _ _ _ _ (c .before .before .before .before .before .before .before .before .before .before .before .before .before .before .before .before .before .before .before .before .before .curve-pieces .ensures) (c .before .before .before .before .before .before .before .before .before .before .before .before .before .before .before .before .before .curve-pieces2 .ensures) (c .before .before .before .before .before .before .before .before .open-pairs .ensures)
+    let b = c .before .before .before .before .before .before .before .before .before .before .before .before .before .before .before .before .before in
+    let args = b .before .before .before .before .before .before .before .before .before .before .before .before .before .before .before .before .before .before .before .before .before .args in
+    pieces-opened (questionOf (args .q) (lineOf (args .degree1) (args .knots1 .now) (args .mults1 .now) (args .coords1 .now) (args .weights1 .now)) (lineOf (args .degree2) (args .knots2 .now) (args .mults2 .now) (args .coords2 .now) (args .weights2 .now))) (args .pieces1 .now) (args .pieces2 .now) (memory (args .nets1 .now) (args .nets2 .now) (args .ranges .now) (args .depths .now) (args .raw .now)) _ _ _ _ (b .before .before .before .before .curve-pieces .ensures) (b .curve-pieces2 .ensures) (c .before .before .before .before .before .before .before .before .open-pairs .ensures)
 
 pub open-pieces-spec : {M : Type 1} → statement M
 open-pieces-spec =

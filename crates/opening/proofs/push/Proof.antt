@@ -47,8 +47,9 @@ slice-aggregate-push-pairs-2 c = search needs
 
 push-pairs-requires : tie.Need-push-pairs-requires
 push-pairs-requires c κs =
-    let args = c .before .before .before .before .before .before .before .before .before .before .before .before .before .before .before .before .before .before .before .before .before .before .before .before .before .args in
-    (c .before .before .before .before .before .before .before .before .before .before .before .count .ensures .1 .1, (c .before .before .before .before .before .before .before .before .before .before .before .before .before .before .before .before .before .before .before .before .before .before .before .before .before .pre .1, subst (λ (k : ℕ). Room (pieces (args .w1) (args .pieces1 .now) (args .breaks1 .now)) (pieces (args .w2) (args .pieces2 .now) (args .breaks2 .now)) k (nodes (args .nets1 .now) (args .nets2 .now) (args .ranges .now) (args .depths .now))) (c .before .before .before .before .before .before .before .before .before .before .before .count .ensures .0 .0 (args .breaks1 .now) (args .breaks2 .now)) (push-room _ _ _ _ _ _ (sizes (memory (args .nets1 .now) (args .nets2 .now) (args .ranges .now) (args .depths .now) (args .raw .now))) (c .before .before .before .before .before .before .before .before .fresh .ensures) (sym (c .before .before .before .before .before .before .before .has-room .ensures) ∙ not-false _ (c .before .before .before .before .before .before .if1 .left)))))
+    let b = c .before .before .before .before .before .before in
+    let args = b .before .before .before .before .before .before .before .before .before .before .before .before .before .before .before .before .before .before .before .args in
+    (b .before .before .before .before .before .count .ensures .1 .1, (b .before .before .before .before .before .before .before .before .before .before .before .before .before .before .before .before .before .before .before .pre .1, subst (λ (k : ℕ). Room (pieces (args .w1) (args .pieces1 .now) (args .breaks1 .now)) (pieces (args .w2) (args .pieces2 .now) (args .breaks2 .now)) k (nodes (args .nets1 .now) (args .nets2 .now) (args .ranges .now) (args .depths .now))) (b .before .before .before .before .before .count .ensures .0 .0 (args .breaks1 .now) (args .breaks2 .now)) (push-room _ _ _ _ _ _ (sizes (memory (args .nets1 .now) (args .nets2 .now) (args .ranges .now) (args .depths .now) (args .raw .now))) (b .before .before .fresh .ensures) (sym (b .before .has-room .ensures) ∙ not-false _ (b .if1 .left)))))
 
 same-length : tie.Need-same-length
 same-length c = search needs
@@ -64,8 +65,10 @@ same-length-4 c = search needs
 
 returns-2 : tie.Need-returns-2
 returns-2 c =
-    let args = c .before .before .before .before .before .before .before .before .before .before .before .before .before .before .before .before .before .before .before .before .before .before .before .before .before .before .before .before .before .before .before .before .before .before .args in
-    push-done (args .q .splits) (args .q .gap) (pieces (args .w1) (args .pieces1 .now) (args .breaks1 .now)) (pieces (args .w2) (args .pieces2 .now) (args .breaks2 .now)) (args .n1) (args .n2) (memory (args .nets1 .now) (args .nets2 .now) (args .ranges .now) (args .depths .now) (args .raw .now)) _ _ (c .before .before .before .before .before .before .before .before .before .before .before .before .before .before .before .before .before .before .before .before .count .ensures .0 .0 (args .breaks1 .now) (args .breaks2 .now)) (c .before .before .before .before .before .before .before .before .before .before .before .before .before .before .before .before .before .fresh .ensures) (sym (c .before .before .before .before .before .before .before .before .before .before .before .before .before .before .before .before .has-room .ensures) ∙ not-false _ (c .before .before .before .before .before .before .before .before .before .before .before .before .before .before .before .if1 .left)) _ _ _ _ (c .before .before .before .before .before .before .before .before .push-pairs .ensures .0) (c .before .before .before .before .before .before .before .before .push-pairs .ensures .1 .0) (c .before .before .before .before .before .before .before .before .push-pairs .ensures .1 .1 .0) (c .before .before .before .before .before .before .before .before .push-pairs .ensures .1 .1 .1)
+    let b = c .before .before .before .before .before .before .before .before .before .before .before .before .before .before .before in
+    let args = b .before .before .before .before .before .before .before .before .before .before .before .before .before .before .before .before .before .before .before .args in
+    let push-pairs = c .before .before .before .before .before .before .before .before .push-pairs in
+    push-done (args .q .splits) (args .q .gap) (pieces (args .w1) (args .pieces1 .now) (args .breaks1 .now)) (pieces (args .w2) (args .pieces2 .now) (args .breaks2 .now)) (args .n1) (args .n2) (memory (args .nets1 .now) (args .nets2 .now) (args .ranges .now) (args .depths .now) (args .raw .now)) _ _ (b .before .before .before .before .before .count .ensures .0 .0 (args .breaks1 .now) (args .breaks2 .now)) (b .before .before .fresh .ensures) (sym (b .before .has-room .ensures) ∙ not-false _ (b .if1 .left)) _ _ _ _ (push-pairs .ensures .0) (push-pairs .ensures .1 .0) (push-pairs .ensures .1 .1 .0) (push-pairs .ensures .1 .1 .1)
 
 pub push-spec : {M : Type 1} → statement M
 push-spec =

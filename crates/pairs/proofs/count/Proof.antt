@@ -26,7 +26,9 @@ returns : tie.Need-returns
 returns c =
     let args = c .before .before .before .before .before .before .before .before .before .before .before .before .before .before .before .args in
     let pre = c .before .before .before .before .before .before .before .before .before .before .before .before .before .before .before .pre in
-    ((λ t1 t2. c .count-pairs .ensures .0 ∙ counts-pairs (args .gap) (pieces (args .w1) (args .pieces1 .now) t1) (pieces (args .w2) (args .pieces2 .now) t2) _ _ (args .n1) (args .n2) (held (args .w1) (args .pieces1 .now) (args .boxes1 .now) _ (args .n1) (pre .4) (c .before .before .before .before .before .before .before .before .before .piece-boxes .ensures)) (held (args .w2) (args .pieces2 .now) (args .boxes2 .now) _ (args .n2) (pre .5) (c .before .before .before .before .before .piece-boxes2 .ensures)), c .count-pairs .ensures .1), ((c .before .before .before .before .before .before .before .before .before .piece-boxes .ensures, c .before .before .before .before .before .piece-boxes2 .ensures), ((held (args .w1) (args .pieces1 .now) (args .boxes1 .now) _ (args .n1) (pre .4) (c .before .before .before .before .before .before .before .before .before .piece-boxes .ensures)), (held (args .w2) (args .pieces2 .now) (args .boxes2 .now) _ (args .n2) (pre .5) (c .before .before .before .before .before .piece-boxes2 .ensures)))))
+    let piece-boxes = c .before .before .before .before .before .before .before .before .before .piece-boxes in
+    let piece-boxes2 = c .before .before .before .before .before .piece-boxes2 in
+    ((λ t1 t2. c .count-pairs .ensures .0 ∙ counts-pairs (args .gap) (pieces (args .w1) (args .pieces1 .now) t1) (pieces (args .w2) (args .pieces2 .now) t2) _ _ (args .n1) (args .n2) (held (args .w1) (args .pieces1 .now) (args .boxes1 .now) _ (args .n1) (pre .4) (piece-boxes .ensures)) (held (args .w2) (args .pieces2 .now) (args .boxes2 .now) _ (args .n2) (pre .5) (piece-boxes2 .ensures)), c .count-pairs .ensures .1), ((piece-boxes .ensures, piece-boxes2 .ensures), ((held (args .w1) (args .pieces1 .now) (args .boxes1 .now) _ (args .n1) (pre .4) (piece-boxes .ensures)), (held (args .w2) (args .pieces2 .now) (args .boxes2 .now) _ (args .n2) (pre .5) (piece-boxes2 .ensures)))))
 
 pub count-spec : {M : Type 1} → statement M
 count-spec =

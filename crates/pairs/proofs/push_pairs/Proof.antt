@@ -31,7 +31,8 @@ push-row-requires c κs =
     let args = c .before .before .before .before .before .before .before .before .before .before .before .before .before .before .before .before .before .args in
     let pre = c .before .before .before .before .before .before .before .before .before .before .before .before .before .before .before .before .before .pre in
     let loop = c .before .before .before .before .before .before .loop in
-    ((c .before .before .before .before .box-at .ensures ∙ box-is (args .w1) (args .pieces1 .now) (args .boxes1 .now) (args .n1) (loop .i) (pre .0 .0) (c .before .before .before .before .before .loop-test .taken), pre .0 .1), ((has-piece (pieces (args .w1) (args .pieces1 .now) (args .breaks1 .now)) (args .n1) (loop .i) (pre .1 .0 .0) (c .before .before .before .before .before .loop-test .taken), pre .1 .0 .1), all-room (args .gap) (pieces (args .w1) (args .pieces1 .now) (args .breaks1 .now)) (pieces (args .w2) (args .pieces2 .now) (args .breaks2 .now)) (args .n1) (args .n2) (pre .1 .0 .0) (pre .1 .0 .1) (loop .i) (loop .k) (nodes (args .nets1 .now) (args .nets2 .now) (args .ranges .now) (args .depths .now)) (nodes (loop .nets1) (loop .nets2) (loop .ranges) (loop .depths)) (c .before .before .before .before .before .loop-test .taken) (loop .inv .3) (loop .inv .4) (loop .inv .5) (loop .inv .6) (pre .1 .1) (loop .inv .1)))
+    let loop-test = c .before .before .before .before .before .loop-test in
+    ((c .before .before .before .before .box-at .ensures ∙ box-is (args .w1) (args .pieces1 .now) (args .boxes1 .now) (args .n1) (loop .i) (pre .0 .0) (loop-test .taken), pre .0 .1), ((has-piece (pieces (args .w1) (args .pieces1 .now) (args .breaks1 .now)) (args .n1) (loop .i) (pre .1 .0 .0) (loop-test .taken), pre .1 .0 .1), all-room (args .gap) (pieces (args .w1) (args .pieces1 .now) (args .breaks1 .now)) (pieces (args .w2) (args .pieces2 .now) (args .breaks2 .now)) (args .n1) (args .n2) (pre .1 .0 .0) (pre .1 .0 .1) (loop .i) (loop .k) (nodes (args .nets1 .now) (args .nets2 .now) (args .ranges .now) (args .depths .now)) (nodes (loop .nets1) (loop .nets2) (loop .ranges) (loop .depths)) (loop-test .taken) (loop .inv .3) (loop .inv .4) (loop .inv .5) (loop .inv .6) (pre .1 .1) (loop .inv .1)))
 
 add-i : tie.Need-add-i Inv-loop μ-loop
 add-i c = omega (arith, c .before .before .before .before .before .before .before .before .before .before .before .before .before .before .loop-test .taken, c .before .before .before .before .before .before .before .before .before .before .before .before .before .before .before .before .before .before .before .before .before .before .before .before .before .before .fits .n1 .fits)
@@ -41,10 +42,12 @@ loop-less c = search needs
 
 loop-again : tie.Need-loop-again Inv-loop μ-loop
 loop-again c =
-    let args = c .before .before .before .before .before .before .before .before .before .before .before .before .before .before .before .before .before .before .before .before .before .before .before .before .before .before .args in
-    let pre = c .before .before .before .before .before .before .before .before .before .before .before .before .before .before .before .before .before .before .before .before .before .before .before .before .before .before .pre in
-    let loop = c .before .before .before .before .before .before .before .before .before .before .before .before .before .before .before .loop in
-    ((all-push (args .gap) (pieces (args .w1) (args .pieces1 .now) (args .breaks1 .now)) (pieces (args .w2) (args .pieces2 .now) (args .breaks2 .now)) (args .n1) (args .n2) (pre .1 .0 .0) (pre .1 .0 .1) (loop .i) (loop .k) _ (nodes (args .nets1 .now) (args .nets2 .now) (args .ranges .now) (args .depths .now)) (nodes (loop .nets1) (loop .nets2) (loop .ranges) (loop .depths)) _ (c .before .before .before .before .before .before .before .before .before .before .before .before .before .before .loop-test .taken) (pre .1 .1) (loop .inv .1) (loop .inv .0) (c .before .before .before .before .before .before .before .before .push-row .ensures .0) (c .before .before .before .before .before .before .before .before .push-row .ensures .1)) .0, (all-push (args .gap) (pieces (args .w1) (args .pieces1 .now) (args .breaks1 .now)) (pieces (args .w2) (args .pieces2 .now) (args .breaks2 .now)) (args .n1) (args .n2) (pre .1 .0 .0) (pre .1 .0 .1) (loop .i) (loop .k) _ (nodes (args .nets1 .now) (args .nets2 .now) (args .ranges .now) (args .depths .now)) (nodes (loop .nets1) (loop .nets2) (loop .ranges) (loop .depths)) _ (c .before .before .before .before .before .before .before .before .before .before .before .before .before .before .loop-test .taken) (pre .1 .1) (loop .inv .1) (loop .inv .0) (c .before .before .before .before .before .before .before .before .push-row .ensures .0) (c .before .before .before .before .before .before .before .before .push-row .ensures .1)) .1, search needs, c .before .before .before .before .before .before .before .before .push-row .kept .1 .1 .1 .1 .1 .1 .1 .1 .1 .1 .1 .1 .0 ∙ loop .inv .3, c .before .before .before .before .before .before .before .before .push-row .kept .1 .1 .1 .1 .1 .1 .1 .1 .1 .1 .1 .1 .1 .0 ∙ loop .inv .4, c .before .before .before .before .before .before .before .before .push-row .kept .1 .1 .1 .1 .1 .1 .1 .1 .1 .1 .1 .1 .1 .1 .0 ∙ loop .inv .5, c .before .before .before .before .before .before .before .before .push-row .kept .1 .1 .1 .1 .1 .1 .1 .1 .1 .1 .1 .1 .1 .1 .1 .0 ∙ loop .inv .6)
+    let b = c .before .before .before .before .before .before .before .before .before .before .before .before .before .before in
+    let args = b .before .before .before .before .before .before .before .before .before .before .before .before .args in
+    let pre = b .before .before .before .before .before .before .before .before .before .before .before .before .pre in
+    let loop = b .before .loop in
+    let push-row = c .before .before .before .before .before .before .before .before .push-row in
+    ((all-push (args .gap) (pieces (args .w1) (args .pieces1 .now) (args .breaks1 .now)) (pieces (args .w2) (args .pieces2 .now) (args .breaks2 .now)) (args .n1) (args .n2) (pre .1 .0 .0) (pre .1 .0 .1) (loop .i) (loop .k) _ (nodes (args .nets1 .now) (args .nets2 .now) (args .ranges .now) (args .depths .now)) (nodes (loop .nets1) (loop .nets2) (loop .ranges) (loop .depths)) _ (b .loop-test .taken) (pre .1 .1) (loop .inv .1) (loop .inv .0) (push-row .ensures .0) (push-row .ensures .1)) .0, (all-push (args .gap) (pieces (args .w1) (args .pieces1 .now) (args .breaks1 .now)) (pieces (args .w2) (args .pieces2 .now) (args .breaks2 .now)) (args .n1) (args .n2) (pre .1 .0 .0) (pre .1 .0 .1) (loop .i) (loop .k) _ (nodes (args .nets1 .now) (args .nets2 .now) (args .ranges .now) (args .depths .now)) (nodes (loop .nets1) (loop .nets2) (loop .ranges) (loop .depths)) _ (b .loop-test .taken) (pre .1 .1) (loop .inv .1) (loop .inv .0) (push-row .ensures .0) (push-row .ensures .1)) .1, search needs, push-row .kept .1 .1 .1 .1 .1 .1 .1 .1 .1 .1 .1 .1 .0 ∙ loop .inv .3, push-row .kept .1 .1 .1 .1 .1 .1 .1 .1 .1 .1 .1 .1 .1 .0 ∙ loop .inv .4, push-row .kept .1 .1 .1 .1 .1 .1 .1 .1 .1 .1 .1 .1 .1 .1 .0 ∙ loop .inv .5, push-row .kept .1 .1 .1 .1 .1 .1 .1 .1 .1 .1 .1 .1 .1 .1 .1 .0 ∙ loop .inv .6)
 
 same-length : tie.Need-same-length Inv-loop μ-loop
 same-length c = c .before .loop .inv .3

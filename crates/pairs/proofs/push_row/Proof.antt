@@ -31,7 +31,8 @@ push-one-requires c κs =
     let args = c .before .before .before .before .before .before .before .before .before .before .before .before .before .before .before .before .args in
     let pre = c .before .before .before .before .before .before .before .before .before .before .before .before .before .before .before .before .pre in
     let loop = c .before .before .before .before .before .before .loop in
-    ((pre .0 .0, c .before .before .before .before .box-at .ensures ∙ box-is (args .w2) (args .pieces2 .now) (args .boxes2 .now) (args .n2) (loop .j) (pre .0 .1) (c .before .before .before .before .before .loop-test .taken)), ((pre .1 .0 .0, has-piece (pieces (args .w2) (args .pieces2 .now) (args .breaks2 .now)) (args .n2) (loop .j) (pre .1 .0 .1) (c .before .before .before .before .before .loop-test .taken)), row-room (args .gap) (pieces (args .w1) (args .pieces1 .now) (args .breaks1 .now)) (pieces (args .w2) (args .pieces2 .now) (args .breaks2 .now)) (args .i) (args .n2) (args .k0) (pre .1 .0 .0) (pre .1 .0 .1) (loop .j) (loop .k) (nodes (args .nets1 .now) (args .nets2 .now) (args .ranges .now) (args .depths .now)) (nodes (loop .nets1) (loop .nets2) (loop .ranges) (loop .depths)) (c .before .before .before .before .before .loop-test .taken) (loop .inv .3) (loop .inv .4) (loop .inv .5) (loop .inv .6) (pre .1 .1) (loop .inv .1)))
+    let loop-test = c .before .before .before .before .before .loop-test in
+    ((pre .0 .0, c .before .before .before .before .box-at .ensures ∙ box-is (args .w2) (args .pieces2 .now) (args .boxes2 .now) (args .n2) (loop .j) (pre .0 .1) (loop-test .taken)), ((pre .1 .0 .0, has-piece (pieces (args .w2) (args .pieces2 .now) (args .breaks2 .now)) (args .n2) (loop .j) (pre .1 .0 .1) (loop-test .taken)), row-room (args .gap) (pieces (args .w1) (args .pieces1 .now) (args .breaks1 .now)) (pieces (args .w2) (args .pieces2 .now) (args .breaks2 .now)) (args .i) (args .n2) (args .k0) (pre .1 .0 .0) (pre .1 .0 .1) (loop .j) (loop .k) (nodes (args .nets1 .now) (args .nets2 .now) (args .ranges .now) (args .depths .now)) (nodes (loop .nets1) (loop .nets2) (loop .ranges) (loop .depths)) (loop-test .taken) (loop .inv .3) (loop .inv .4) (loop .inv .5) (loop .inv .6) (pre .1 .1) (loop .inv .1)))
 
 add-j : tie.Need-add-j Inv-loop μ-loop
 add-j c = omega (arith, c .before .before .before .before .before .before .before .before .before .before .before .before .before .before .loop-test .taken, c .before .before .before .before .before .before .before .before .before .before .before .before .before .before .before .before .before .before .before .before .before .before .before .before .before .fits .n2 .fits)
@@ -41,10 +42,12 @@ loop-less c = search needs
 
 loop-again : tie.Need-loop-again Inv-loop μ-loop
 loop-again c =
-    let args = c .before .before .before .before .before .before .before .before .before .before .before .before .before .before .before .before .before .before .before .before .before .before .before .before .before .args in
-    let pre = c .before .before .before .before .before .before .before .before .before .before .before .before .before .before .before .before .before .before .before .before .before .before .before .before .before .pre in
-    let loop = c .before .before .before .before .before .before .before .before .before .before .before .before .before .before .before .loop in
-    ((row-push (args .gap) (pieces (args .w1) (args .pieces1 .now) (args .breaks1 .now)) (pieces (args .w2) (args .pieces2 .now) (args .breaks2 .now)) (args .i) (args .n2) (args .k0) (pre .1 .0 .0) (pre .1 .0 .1) (loop .j) (loop .k) _ (nodes (args .nets1 .now) (args .nets2 .now) (args .ranges .now) (args .depths .now)) (nodes (loop .nets1) (loop .nets2) (loop .ranges) (loop .depths)) _ (c .before .before .before .before .before .before .before .before .before .before .before .before .before .before .loop-test .taken) (pre .1 .1) (loop .inv .1) (loop .inv .0) (c .before .before .before .before .before .before .before .before .push-one .ensures .0) (c .before .before .before .before .before .before .before .before .push-one .ensures .1)) .0, (row-push (args .gap) (pieces (args .w1) (args .pieces1 .now) (args .breaks1 .now)) (pieces (args .w2) (args .pieces2 .now) (args .breaks2 .now)) (args .i) (args .n2) (args .k0) (pre .1 .0 .0) (pre .1 .0 .1) (loop .j) (loop .k) _ (nodes (args .nets1 .now) (args .nets2 .now) (args .ranges .now) (args .depths .now)) (nodes (loop .nets1) (loop .nets2) (loop .ranges) (loop .depths)) _ (c .before .before .before .before .before .before .before .before .before .before .before .before .before .before .loop-test .taken) (pre .1 .1) (loop .inv .1) (loop .inv .0) (c .before .before .before .before .before .before .before .before .push-one .ensures .0) (c .before .before .before .before .before .before .before .before .push-one .ensures .1)) .1, search needs, c .before .before .before .before .before .before .before .before .push-one .kept .1 .1 .1 .1 .1 .1 .1 .1 .1 .1 .1 .1 .0 ∙ loop .inv .3, c .before .before .before .before .before .before .before .before .push-one .kept .1 .1 .1 .1 .1 .1 .1 .1 .1 .1 .1 .1 .1 .0 ∙ loop .inv .4, c .before .before .before .before .before .before .before .before .push-one .kept .1 .1 .1 .1 .1 .1 .1 .1 .1 .1 .1 .1 .1 .1 .0 ∙ loop .inv .5, c .before .before .before .before .before .before .before .before .push-one .kept .1 .1 .1 .1 .1 .1 .1 .1 .1 .1 .1 .1 .1 .1 .1 .0 ∙ loop .inv .6)
+    let b = c .before .before .before .before .before .before .before .before .before .before .before .before .before .before in
+    let args = b .before .before .before .before .before .before .before .before .before .before .before .args in
+    let pre = b .before .before .before .before .before .before .before .before .before .before .before .pre in
+    let loop = b .before .loop in
+    let push-one = c .before .before .before .before .before .before .before .before .push-one in
+    ((row-push (args .gap) (pieces (args .w1) (args .pieces1 .now) (args .breaks1 .now)) (pieces (args .w2) (args .pieces2 .now) (args .breaks2 .now)) (args .i) (args .n2) (args .k0) (pre .1 .0 .0) (pre .1 .0 .1) (loop .j) (loop .k) _ (nodes (args .nets1 .now) (args .nets2 .now) (args .ranges .now) (args .depths .now)) (nodes (loop .nets1) (loop .nets2) (loop .ranges) (loop .depths)) _ (b .loop-test .taken) (pre .1 .1) (loop .inv .1) (loop .inv .0) (push-one .ensures .0) (push-one .ensures .1)) .0, (row-push (args .gap) (pieces (args .w1) (args .pieces1 .now) (args .breaks1 .now)) (pieces (args .w2) (args .pieces2 .now) (args .breaks2 .now)) (args .i) (args .n2) (args .k0) (pre .1 .0 .0) (pre .1 .0 .1) (loop .j) (loop .k) _ (nodes (args .nets1 .now) (args .nets2 .now) (args .ranges .now) (args .depths .now)) (nodes (loop .nets1) (loop .nets2) (loop .ranges) (loop .depths)) _ (b .loop-test .taken) (pre .1 .1) (loop .inv .1) (loop .inv .0) (push-one .ensures .0) (push-one .ensures .1)) .1, search needs, push-one .kept .1 .1 .1 .1 .1 .1 .1 .1 .1 .1 .1 .1 .0 ∙ loop .inv .3, push-one .kept .1 .1 .1 .1 .1 .1 .1 .1 .1 .1 .1 .1 .1 .0 ∙ loop .inv .4, push-one .kept .1 .1 .1 .1 .1 .1 .1 .1 .1 .1 .1 .1 .1 .1 .0 ∙ loop .inv .5, push-one .kept .1 .1 .1 .1 .1 .1 .1 .1 .1 .1 .1 .1 .1 .1 .1 .0 ∙ loop .inv .6)
 
 same-length : tie.Need-same-length Inv-loop μ-loop
 same-length c = c .before .loop .inv .3

@@ -29,12 +29,15 @@ array-borrow-prefix-f : tie.Need-array-borrow-prefix-f
 array-borrow-prefix-f c = search needs
 
 slice-aggregate-floats : tie.Need-slice-aggregate-floats
-slice-aggregate-floats c = sym (length-take-le (c .before .before .before .before .before .before .read-header .result .knots + c .before .before .before .before .before .before .read-header .result .coords + c .before .before .before .before .before .before .read-header .result .weights + 2) (c .before .float-room .result) (omega (arith, c .before .float-room .ensures, c .before .before .before .before .before .before .read-header .ensures)))
+slice-aggregate-floats c =
+    let read-header = c .before .before .before .before .before .before .read-header in
+    sym (length-take-le (read-header .result .knots + read-header .result .coords + read-header .result .weights + 2) (c .before .float-room .result) (omega (arith, c .before .float-room .ensures, read-header .ensures)))
 
 read-floats-requires : tie.Need-read-floats-requires
 read-floats-requires c κs =
-    let l = length-take-le (c .before .before .before .before .before .before .before .read-header .result .knots + c .before .before .before .before .before .before .before .read-header .result .coords + c .before .before .before .before .before .before .before .read-header .result .weights + 2) (c .before .before .float-room .result) (omega (arith, c .before .before .float-room .ensures, c .before .before .before .before .before .before .before .read-header .ensures)) in
-    omega (arith, c .before .before .before .before .before .before .before .read-header .ensures)
+    let read-header = c .before .before .before .before .before .before .before .read-header in
+    let l = length-take-le (read-header .result .knots + read-header .result .coords + read-header .result .weights + 2) (c .before .before .float-room .result) (omega (arith, c .before .before .float-room .ensures, read-header .ensures)) in
+    omega (arith, read-header .ensures)
 
 returns-2 : tie.Need-returns-2
 returns-2 c = search needs
@@ -50,16 +53,19 @@ slice-aggregate-mults c = sym (length-take-le (c .before .before .before .before
 
 read-words-requires : tie.Need-read-words-requires
 read-words-requires c κs =
-    let l = length-take-le (c .before .before .before .before .before .before .before .before .before .before .before .before .before .before .read-header .result .mults) (c .before .before .mult-room .result) (omega (arith, c .before .before .mult-room .ensures, c .before .before .before .before .before .before .before .before .before .before .before .before .before .before .read-header .ensures)) in
-    omega (arith, c .before .before .before .before .before .before .before .before .before .before .before .before .before .before .read-header .ensures)
+    let read-header = c .before .before .before .before .before .before .before .before .before .before .before .before .before .before .read-header in
+    let l = length-take-le (read-header .result .mults) (c .before .before .mult-room .result) (omega (arith, c .before .before .mult-room .ensures, read-header .ensures)) in
+    omega (arith, read-header .ensures)
 
 returns-3 : tie.Need-returns-3
 returns-3 c = search needs
 
 second-requires : tie.Need-second-requires
 second-requires c κs =
-    let l = length-take-le (c .before .before .before .before .before .before .before .before .before .before .before .before .before .before .before .before .before .before .before .before .read-header .result .knots + c .before .before .before .before .before .before .before .before .before .before .before .before .before .before .before .before .before .before .before .before .read-header .result .coords + c .before .before .before .before .before .before .before .before .before .before .before .before .before .before .before .before .before .before .before .before .read-header .result .weights + 2) (c .before .before .before .before .before .before .before .before .before .before .before .before .before .before .before .float-room .result) (omega (arith, c .before .before .before .before .before .before .before .before .before .before .before .before .before .before .before .float-room .ensures, c .before .before .before .before .before .before .before .before .before .before .before .before .before .before .before .before .before .before .before .before .read-header .ensures)) in
-    ((c .before .before .before .before .before .before .before .before .before .before .before .before .before .before .before .before .before .before .before .before .read-header .ensures .0, c .before .before .before .before .before .before .before .before .before .before .before .before .before .before .before .before .before .before .before .before .read-header .ensures .2, c .before .before .before .before .before .before .before .before .before .before .before .before .before .before .before .before .before .before .before .before .read-header .ensures .3, omega (arith, c .before .before .before .before .before .before .before .before .before .before .before .before .read-floats .kept .0)))
+    let b = c .before .before .before .before .before .before .before .before .before .before .before .before in
+    let read-header = b .before .before .before .before .before .before .before .before .read-header in
+    let l = length-take-le (read-header .result .knots + read-header .result .coords + read-header .result .weights + 2) (b .before .before .before .float-room .result) (omega (arith, b .before .before .before .float-room .ensures, read-header .ensures)) in
+    ((read-header .ensures .0, read-header .ensures .2, read-header .ensures .3, omega (arith, b .read-floats .kept .0)))
 
 returns-4 : tie.Need-returns-4
 returns-4 c = search needs

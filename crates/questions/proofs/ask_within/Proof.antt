@@ -67,10 +67,11 @@ breaks-fit-requires-2 c κs = search needs
 returns-6 : tie.Need-returns-6
 unfolding askWithin
 returns-6 c =
+    let b = c .before .before .before .before .before .before in
     simp (
-      sym (c .before .before .before .before .before .before .before .before .before .before .range-fits .ensures) ∙ not-false _ (c .before .before .before .before .before .before .before .before .before .if1 .left),
-      sym (c .before .before .before .before .before .before .before .before .range-fits2 .ensures) ∙ not-false _ (c .before .before .before .before .before .before .before .if2 .left),
-      sym (c .before .before .before .before .before .before .is-within .ensures) ∙ not-false _ (c .before .before .before .before .before .if3 .left),
+      sym (b .before .before .before .before .range-fits .ensures) ∙ not-false _ (b .before .before .before .if1 .left),
+      sym (b .before .before .range-fits2 .ensures) ∙ not-false _ (b .before .if2 .left),
+      sym (b .is-within .ensures) ∙ not-false _ (c .before .before .before .before .before .if3 .left),
       le-ltb _ _ (c .before .before .before .before .if4 .left),
       sym (c .before .before .before .breaks-fit .ensures) ∙ not-false _ (c .before .before .if5 .left),
       sym (c .before .breaks-fit2 .ensures) ∙ not-true _ (c .if6 .taken),
@@ -79,10 +80,11 @@ returns-6 c =
 returns-7 : tie.Need-returns-7
 unfolding askWithin
 returns-7 c =
+    let b = c .before .before .before .before .before .before in
     simp (
-      sym (c .before .before .before .before .before .before .before .before .before .before .range-fits .ensures) ∙ not-false _ (c .before .before .before .before .before .before .before .before .before .if1 .left),
-      sym (c .before .before .before .before .before .before .before .before .range-fits2 .ensures) ∙ not-false _ (c .before .before .before .before .before .before .before .if2 .left),
-      sym (c .before .before .before .before .before .before .is-within .ensures) ∙ not-false _ (c .before .before .before .before .before .if3 .left),
+      sym (b .before .before .before .before .range-fits .ensures) ∙ not-false _ (b .before .before .before .if1 .left),
+      sym (b .before .before .range-fits2 .ensures) ∙ not-false _ (b .before .if2 .left),
+      sym (b .is-within .ensures) ∙ not-false _ (c .before .before .before .before .before .if3 .left),
       le-ltb _ _ (c .before .before .before .before .if4 .left),
       sym (c .before .before .before .breaks-fit .ensures) ∙ not-false _ (c .before .before .if5 .left),
       sym (c .before .breaks-fit2 .ensures) ∙ not-false _ (c .if6 .left),

@@ -46,7 +46,11 @@ returns-4 c =
 list-left-requires : tie.Need-list-left-requires
 list-left-requires c κs =
     let args = c .before .before .before .before .before .before .before .before .before .before .before .before .before .before .before .before .args in
-    ((room-left (args .st) _ (sizes (memory (args .nets1 .now) (args .nets2 .now) (args .ranges .now) (args .depths .now) (args .raw .now))) _ (sym (c .before .before .before .before .before .before .before .has-room .ensures) ∙ not-false _ (c .before .before .before .before .before .before .if2 .left)) (sym (c .before .before .before .before .before .has-report-room .ensures) ∙ not-false _ (c .before .before .before .before .if3 .left)) (sym (c .before .before .is-search .ensures) ∙ not-false _ (c .before .if4 .left))) .nets1, (room-left (args .st) _ (sizes (memory (args .nets1 .now) (args .nets2 .now) (args .ranges .now) (args .depths .now) (args .raw .now))) _ (sym (c .before .before .before .before .before .before .before .has-room .ensures) ∙ not-false _ (c .before .before .before .before .before .before .if2 .left)) (sym (c .before .before .before .before .before .has-report-room .ensures) ∙ not-false _ (c .before .before .before .before .if3 .left)) (sym (c .before .before .is-search .ensures) ∙ not-false _ (c .before .if4 .left))) .nets2, (room-left (args .st) _ (sizes (memory (args .nets1 .now) (args .nets2 .now) (args .ranges .now) (args .depths .now) (args .raw .now))) _ (sym (c .before .before .before .before .before .before .before .has-room .ensures) ∙ not-false _ (c .before .before .before .before .before .before .if2 .left)) (sym (c .before .before .before .before .before .has-report-room .ensures) ∙ not-false _ (c .before .before .before .before .if3 .left)) (sym (c .before .before .is-search .ensures) ∙ not-false _ (c .before .if4 .left))) .ranges, (room-left (args .st) _ (sizes (memory (args .nets1 .now) (args .nets2 .now) (args .ranges .now) (args .depths .now) (args .raw .now))) _ (sym (c .before .before .before .before .before .before .before .has-room .ensures) ∙ not-false _ (c .before .before .before .before .before .before .if2 .left)) (sym (c .before .before .before .before .before .has-report-room .ensures) ∙ not-false _ (c .before .before .before .before .if3 .left)) (sym (c .before .before .is-search .ensures) ∙ not-false _ (c .before .if4 .left))) .raw)
+    let has-report-room = c .before .before .before .before .before .has-report-room in
+    let has-room = c .before .before .before .before .before .before .before .has-room in
+    let if2 = c .before .before .before .before .before .before .if2 in
+    let if3 = c .before .before .before .before .if3 in
+    ((room-left (args .st) _ (sizes (memory (args .nets1 .now) (args .nets2 .now) (args .ranges .now) (args .depths .now) (args .raw .now))) _ (sym (has-room .ensures) ∙ not-false _ (if2 .left)) (sym (has-report-room .ensures) ∙ not-false _ (if3 .left)) (sym (c .before .before .is-search .ensures) ∙ not-false _ (c .before .if4 .left))) .nets1, (room-left (args .st) _ (sizes (memory (args .nets1 .now) (args .nets2 .now) (args .ranges .now) (args .depths .now) (args .raw .now))) _ (sym (has-room .ensures) ∙ not-false _ (if2 .left)) (sym (has-report-room .ensures) ∙ not-false _ (if3 .left)) (sym (c .before .before .is-search .ensures) ∙ not-false _ (c .before .if4 .left))) .nets2, (room-left (args .st) _ (sizes (memory (args .nets1 .now) (args .nets2 .now) (args .ranges .now) (args .depths .now) (args .raw .now))) _ (sym (has-room .ensures) ∙ not-false _ (if2 .left)) (sym (has-report-room .ensures) ∙ not-false _ (if3 .left)) (sym (c .before .before .is-search .ensures) ∙ not-false _ (c .before .if4 .left))) .ranges, (room-left (args .st) _ (sizes (memory (args .nets1 .now) (args .nets2 .now) (args .ranges .now) (args .depths .now) (args .raw .now))) _ (sym (has-room .ensures) ∙ not-false _ (if2 .left)) (sym (has-report-room .ensures) ∙ not-false _ (if3 .left)) (sym (c .before .before .is-search .ensures) ∙ not-false _ (c .before .if4 .left))) .raw)
 
 cast-given : tie.Need-cast-given
 cast-given c = search needs
@@ -59,9 +63,10 @@ add-merged c = search needs
 
 merged-requires : tie.Need-merged-requires
 merged-requires c κs =
-    let args = c .before .before .before .before .before .before .before .before .before .before .before .before .before .before .before .before .before .before .before .before .before .before .before .args in
-    let r = (room-left (args .st) _ (sizes (memory (args .nets1 .now) (args .nets2 .now) (args .ranges .now) (args .depths .now) (args .raw .now))) _ (sym (c .before .before .before .before .before .before .before .before .before .before .before .before .before .before .has-room .ensures) ∙ not-false _ (c .before .before .before .before .before .before .before .before .before .before .before .before .before .if2 .left)) (sym (c .before .before .before .before .before .before .before .before .before .before .before .before .has-report-room .ensures) ∙ not-false _ (c .before .before .before .before .before .before .before .before .before .before .before .if3 .left)) (sym (c .before .before .before .before .before .before .before .before .before .is-search .ensures) ∙ not-false _ (c .before .before .before .before .before .before .before .before .if4 .left))) .raw in
-    let s = (room-left (args .st) _ (sizes (memory (args .nets1 .now) (args .nets2 .now) (args .ranges .now) (args .depths .now) (args .raw .now))) _ (sym (c .before .before .before .before .before .before .before .before .before .before .before .before .before .before .has-room .ensures) ∙ not-false _ (c .before .before .before .before .before .before .before .before .before .before .before .before .before .if2 .left)) (sym (c .before .before .before .before .before .before .before .before .before .before .before .before .has-report-room .ensures) ∙ not-false _ (c .before .before .before .before .before .before .before .before .before .before .before .if3 .left)) (sym (c .before .before .before .before .before .before .before .before .before .is-search .ensures) ∙ not-false _ (c .before .before .before .before .before .before .before .before .if4 .left))) .slice in
+    let b = c .before .before .before .before .before .before .before .before in
+    let args = b .before .before .before .before .before .before .before .before .before .before .before .before .before .before .before .args in
+    let r = (room-left (args .st) _ (sizes (memory (args .nets1 .now) (args .nets2 .now) (args .ranges .now) (args .depths .now) (args .raw .now))) _ (sym (b .before .before .before .before .before .before .has-room .ensures) ∙ not-false _ (b .before .before .before .before .before .if2 .left)) (sym (b .before .before .before .before .has-report-room .ensures) ∙ not-false _ (b .before .before .before .if3 .left)) (sym (b .before .is-search .ensures) ∙ not-false _ (b .if4 .left))) .raw in
+    let s = (room-left (args .st) _ (sizes (memory (args .nets1 .now) (args .nets2 .now) (args .ranges .now) (args .depths .now) (args .raw .now))) _ (sym (b .before .before .before .before .before .before .has-room .ensures) ∙ not-false _ (b .before .before .before .before .before .if2 .left)) (sym (b .before .before .before .before .has-report-room .ensures) ∙ not-false _ (b .before .before .before .if3 .left)) (sym (b .before .is-search .ensures) ∙ not-false _ (b .if4 .left))) .slice in
     (search needs, s)
 
 word-of-requires : tie.Need-word-of-requires
@@ -78,8 +83,9 @@ same-length-2 c = search needs
 
 returns-5 : tie.Need-returns-5
 returns-5 c =
-    let args = c .before .before .before .before .before .before .before .before .before .before .before .before .before .before .before .before .before .before .before .before .before .before .before .before .before .before .before .before .args in
-    report-told geometry (args .st) (memory (args .nets1 .now) (args .nets2 .now) (args .ranges .now) (args .depths .now) (args .raw .now)) (args .out .now) (sym (c .before .before .before .before .before .before .before .before .before .before .before .before .before .before .before .before .before .before .before .before .before .ended .ensures) ∙ not-false _ (c .before .before .before .before .before .before .before .before .before .before .before .before .before .before .before .before .before .before .before .before .if1 .left)) (sym (c .before .before .before .before .before .before .before .before .before .before .before .before .before .before .before .before .before .before .before .has-room .ensures) ∙ not-false _ (c .before .before .before .before .before .before .before .before .before .before .before .before .before .before .before .before .before .before .if2 .left)) (sym (c .before .before .before .before .before .before .before .before .before .before .before .before .before .before .before .before .before .has-report-room .ensures) ∙ not-false _ (c .before .before .before .before .before .before .before .before .before .before .before .before .before .before .before .before .if3 .left)) (ap (searchWith (args .st)) (sym (c .before .before .before .before .before .before .before .before .before .before .before .before .before .before .before .top-depth .ensures)) ∙ (sym (c .before .before .before .before .before .before .before .before .before .before .before .before .before .before .is-search .ensures) ∙ not-false _ (c .before .before .before .before .before .before .before .before .before .before .before .before .before .if4 .left))) _ _ _ _ _ (c .before .word-of .ensures) (c .result .ensures) (c .before .before .before .before .before .before .before .before .before .before .before .list-left .ensures) (c .before .before .before .before .merged .ensures .0) (c .before .before .before .before .merged .ensures .1)
+    let b = c .before .before .before .before .before .before .before .before .before .before .before .before .before in
+    let args = b .before .before .before .before .before .before .before .before .before .before .before .before .before .before .before .args in
+    report-told geometry (args .st) (memory (args .nets1 .now) (args .nets2 .now) (args .ranges .now) (args .depths .now) (args .raw .now)) (args .out .now) (sym (b .before .before .before .before .before .before .before .before .ended .ensures) ∙ not-false _ (b .before .before .before .before .before .before .before .if1 .left)) (sym (b .before .before .before .before .before .before .has-room .ensures) ∙ not-false _ (b .before .before .before .before .before .if2 .left)) (sym (b .before .before .before .before .has-report-room .ensures) ∙ not-false _ (b .before .before .before .if3 .left)) (ap (searchWith (args .st)) (sym (b .before .before .top-depth .ensures)) ∙ (sym (b .before .is-search .ensures) ∙ not-false _ (b .if4 .left))) _ _ _ _ _ (c .before .word-of .ensures) (c .result .ensures) (c .before .before .before .before .before .before .before .before .before .before .before .list-left .ensures) (c .before .before .before .before .merged .ensures .0) (c .before .before .before .before .merged .ensures .1)
 
 pub report-spec : {M : Type 1} → statement M
 report-spec =

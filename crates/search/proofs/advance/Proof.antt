@@ -88,11 +88,12 @@ same-length-8 c = search needs
 
 returns-5 : tie.Need-returns-5
 returns-5 c =
-    let args = c .before .before .before .before .before .before .before .before .before .before .before .before .before .before .before .before .before .before .before .before .before .before .before .args in
-    let pre = c .before .before .before .before .before .before .before .before .before .before .before .before .before .before .before .before .before .before .before .before .before .before .before .pre in
+    let b = c .before .before .before .before .before .before .before .before .before .before .before .before .before in
+    let args = b .before .before .before .before .before .before .before .before .before .before .args in
+    let pre = b .before .before .before .before .before .before .before .before .before .before .pre in
     let h = c .before .before .before .before .before .before .before .before .halve .ensures in
-    let q = c .before .before .before .before .before .before .before .before .before .before .before .before .before .if2 .left in
-    halved-is (args .st) (memory (args .nets1 .now) (args .nets2 .now) (args .ranges .now) (args .depths .now) (args .raw .now)) (args .k) (args .depth) (args .a) (args .b) (pre .1 .0) (pre .1 .1) _ _ _ _ _ (pre .1 .2) (c .before .before .before .before .before .before .before .before .before .before .before .before .before .before .before .if1 .left) (search needs) (pre .0 .nets1) (pre .0 .nets2) (h .0) (h .1) (h .2) (h .3) (h .4) ∙ ap (λ (v : Verdict). actOn geometry (suc (args .k)) v (args .st) (memory (args .nets1 .now) (args .nets2 .now) (args .ranges .now) (args .depths .now) (args .raw .now))) (sym (c .before .before .before .before .before .before .before .before .before .before .before .before .before .before .before .before .enum-told3 .given .1))
+    let q = b .if2 .left in
+    halved-is (args .st) (memory (args .nets1 .now) (args .nets2 .now) (args .ranges .now) (args .depths .now) (args .raw .now)) (args .k) (args .depth) (args .a) (args .b) (pre .1 .0) (pre .1 .1) _ _ _ _ _ (pre .1 .2) (b .before .before .if1 .left) (search needs) (pre .0 .nets1) (pre .0 .nets2) (h .0) (h .1) (h .2) (h .3) (h .4) ∙ ap (λ (v : Verdict). actOn geometry (suc (args .k)) v (args .st) (memory (args .nets1 .now) (args .nets2 .now) (args .ranges .now) (args .depths .now) (args .raw .now))) (sym (b .before .before .before .enum-told3 .given .1))
 
 pub advance-spec : {M : Type 1} → statement M
 advance-spec =

@@ -59,12 +59,13 @@ judge-in-requires c κs =
 
 advance-requires : tie.Need-advance-requires
 advance-requires c κs =
-    let m = c .before .before .before .before .before .before .before .before .before .before .before .before .before .before .before .before .before .before .before .before .before in
+    let b = c .before .before .before .before .before .before .before .before .before .before .before in
+    let m = b .before .before .before .before .before .before .before .before .before .before in
     let args = m .before .before .before .before .before .before .before .before .before .before .before .before .args in
     let u = memory (args .nets1 .now) (args .nets2 .now) (args .ranges .now) (args .depths .now) (args .raw .now) in
     let A = accepted (args .st) u _ _ _ (m .before .before .before .before .has-room .ensures) (sym (m .top .given .1) ∙ m .before .before .top-node .ensures) in
-    let j = c .before .before .before .before .before .before .before .before .before .before .before in
-    let s = c .before .before .before .before .before .before .before .before .before .before .before .before .before .before .before .before .before .struct-known in
+    let j = b in
+    let s = b .before .before .before .before .before .before .struct-known in
     (accepted-room (args .st) u _ _ A (omega (arith, s .given)) (omega (arith, s .given)), (ap (λ (o : Judged). o .a) (j .judge-in .ensures .0) ∙ ap boxOf (j .before .before .before .before .before .net-of .ensures .0), ap (λ (o : Judged). o .b) (j .judge-in .ensures .0) ∙ ap boxOf (j .before .before .before .net-of2 .ensures .0), accepted-depth (args .st) u _ _ A))
 
 same-length : tie.Need-same-length

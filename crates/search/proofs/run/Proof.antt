@@ -48,13 +48,16 @@ enum-known-out c = search needs
 
 loop-less : tie.Need-loop-less Inv-loop μ-loop
 loop-less c =
-    let loop = c .before .before .before .before .before .before .before .before .before .before .before .before .before .before .before .before .before .before .before .before .before .before .before .before .before .loop in
-    measure-falls (loop .s) (c .before .out .given .0 .0) (sym (c .before .before .before .before .before .before .before .before .before .before .before .before .before .before .before .before .before .before .before .before .before .before .before .before .ended .ensures) ∙ not-true _ (c .before .before .before .before .before .before .before .before .before .before .before .before .before .before .before .before .before .before .before .before .before .before .before .if1 .taken)) (own-step-falls geometry (loop .s) (memory (loop .nets1) (loop .nets2) (loop .ranges) (loop .depths) (loop .raw)) _ (ap (λ (o : Stepping). o .answer) (sym (c .before .before .before .before .before .before .before .before .before .before .before .before .before .before .before .own-step-in .ensures)) ∙ c .before .out .given .1))
+    let b = c .before .before .before .before .before .before .before .before .before .before .before .before .before .before .before .before .before .before .before .before .before .before .before in
+    let loop = b .before .before .loop in
+    measure-falls (loop .s) (c .before .out .given .0 .0) (sym (b .before .ended .ensures) ∙ not-true _ (b .if1 .taken)) (own-step-falls geometry (loop .s) (memory (loop .nets1) (loop .nets2) (loop .ranges) (loop .depths) (loop .raw)) _ (ap (λ (o : Stepping). o .answer) (sym (c .before .before .before .before .before .before .before .before .before .before .before .before .before .before .before .own-step-in .ensures)) ∙ c .before .out .given .1))
 
 loop-again : tie.Need-loop-again Inv-loop μ-loop
 loop-again c =
-    let loop = c .before .before .before .before .before .before .before .before .before .before .before .before .before .before .before .before .before .before .before .before .before .before .before .before .before .loop in
-    (run-turn geometry (loop .s) (memory (loop .nets1) (loop .nets2) (loop .ranges) (loop .depths) (loop .raw)) _ (memory (c .before .before .before .before .before .before .before .before .before .before .before .before .before .before .before .own-step-in .last .1 .0) (c .before .before .before .before .before .before .before .before .before .before .before .before .before .before .before .own-step-in .last .1 .1 .0) (c .before .before .before .before .before .before .before .before .before .before .before .before .before .before .before .own-step-in .last .1 .1 .1 .0) (c .before .before .before .before .before .before .before .before .before .before .before .before .before .before .before .own-step-in .last .1 .1 .1 .1 .0) (c .before .before .before .before .before .before .before .before .before .before .before .before .before .before .before .own-step-in .last .1 .1 .1 .1 .1 .0)) (sym (c .before .before .before .before .before .before .before .before .before .before .before .before .before .before .before .before .before .before .before .before .before .before .before .before .ended .ensures) ∙ not-true _ (c .before .before .before .before .before .before .before .before .before .before .before .before .before .before .before .before .before .before .before .before .before .before .before .if1 .taken)) (some-left (loop .s) (sym (c .before .before .before .before .before .before .before .before .before .before .before .before .before .before .before .before .before .before .before .before .before .before .before .before .ended .ensures) ∙ not-true _ (c .before .before .before .before .before .before .before .before .before .before .before .before .before .before .before .before .before .before .before .before .before .before .before .if1 .taken))) (ap (λ (r : Stepped). stepping r (memory (c .before .before .before .before .before .before .before .before .before .before .before .before .before .before .before .own-step-in .last .1 .0) (c .before .before .before .before .before .before .before .before .before .before .before .before .before .before .before .own-step-in .last .1 .1 .0) (c .before .before .before .before .before .before .before .before .before .before .before .before .before .before .before .own-step-in .last .1 .1 .1 .0) (c .before .before .before .before .before .before .before .before .before .before .before .before .before .before .before .own-step-in .last .1 .1 .1 .1 .0) (c .before .before .before .before .before .before .before .before .before .before .before .before .before .before .before .own-step-in .last .1 .1 .1 .1 .1 .0))) (sym (c .before .out .given .1)) ∙ c .before .before .before .before .before .before .before .before .before .before .before .before .before .before .before .own-step-in .ensures) ∙ loop .inv .0, c .before .before .before .before .before .before .before .before .before .before .before .before .before .before .before .own-step-in .kept .1 .0 ∙ loop .inv .1, c .before .before .before .before .before .before .before .before .before .before .before .before .before .before .before .own-step-in .kept .1 .1 .0 ∙ loop .inv .2, c .before .before .before .before .before .before .before .before .before .before .before .before .before .before .before .own-step-in .kept .1 .1 .1 .0 ∙ loop .inv .3, c .before .before .before .before .before .before .before .before .before .before .before .before .before .before .before .own-step-in .kept .1 .1 .1 .1 .0 ∙ loop .inv .4, c .before .before .before .before .before .before .before .before .before .before .before .before .before .before .before .own-step-in .kept .1 .1 .1 .1 .1 .0 ∙ loop .inv .5, c .before .before .before .before .before .before .before .before .before .before .before .before .before .before .before .own-step-in .kept .1 .1 .1 .1 .1 .1 .0 ∙ loop .inv .6, c .before .before .before .before .before .before .before .before .before .before .before .before .before .before .before .own-step-in .kept .1 .1 .1 .1 .1 .1 .1 .0 ∙ loop .inv .7)
+    let b = c .before .before .before .before .before .before .before .before .before .before .before .before .before .before .before .before .before .before .before .before .before .before .before in
+    let loop = b .before .before .loop in
+    let own-step-in = c .before .before .before .before .before .before .before .before .before .before .before .before .before .before .before .own-step-in in
+    (run-turn geometry (loop .s) (memory (loop .nets1) (loop .nets2) (loop .ranges) (loop .depths) (loop .raw)) _ (memory (own-step-in .last .1 .0) (own-step-in .last .1 .1 .0) (own-step-in .last .1 .1 .1 .0) (own-step-in .last .1 .1 .1 .1 .0) (own-step-in .last .1 .1 .1 .1 .1 .0)) (sym (b .before .ended .ensures) ∙ not-true _ (b .if1 .taken)) (some-left (loop .s) (sym (b .before .ended .ensures) ∙ not-true _ (b .if1 .taken))) (ap (λ (r : Stepped). stepping r (memory (own-step-in .last .1 .0) (own-step-in .last .1 .1 .0) (own-step-in .last .1 .1 .1 .0) (own-step-in .last .1 .1 .1 .1 .0) (own-step-in .last .1 .1 .1 .1 .1 .0))) (sym (c .before .out .given .1)) ∙ own-step-in .ensures) ∙ loop .inv .0, own-step-in .kept .1 .0 ∙ loop .inv .1, own-step-in .kept .1 .1 .0 ∙ loop .inv .2, own-step-in .kept .1 .1 .1 .0 ∙ loop .inv .3, own-step-in .kept .1 .1 .1 .1 .0 ∙ loop .inv .4, own-step-in .kept .1 .1 .1 .1 .1 .0 ∙ loop .inv .5, own-step-in .kept .1 .1 .1 .1 .1 .1 .0 ∙ loop .inv .6, own-step-in .kept .1 .1 .1 .1 .1 .1 .1 .0 ∙ loop .inv .7)
 
 enum-told : tie.Need-enum-told Inv-loop μ-loop
 enum-told c = search needs
@@ -76,8 +79,10 @@ same-length-5 c = c .before .before .before .before .before .before .before .bef
 
 returns : tie.Need-returns Inv-loop μ-loop
 returns c =
-    let loop = c .before .before .before .before .before .before .before .before .before .before .before .before .before .before .before .before .before .before .before .before .before .before .before .before .loop in
-    run-refused geometry (loop .s) (memory (loop .nets1) (loop .nets2) (loop .ranges) (loop .depths) (loop .raw)) _ (memory (c .before .before .before .before .before .before .before .before .before .before .before .before .before .before .own-step-in .last .1 .0) (c .before .before .before .before .before .before .before .before .before .before .before .before .before .before .own-step-in .last .1 .1 .0) (c .before .before .before .before .before .before .before .before .before .before .before .before .before .before .own-step-in .last .1 .1 .1 .0) (c .before .before .before .before .before .before .before .before .before .before .before .before .before .before .own-step-in .last .1 .1 .1 .1 .0) (c .before .before .before .before .before .before .before .before .before .before .before .before .before .before .own-step-in .last .1 .1 .1 .1 .1 .0)) (sym (c .before .before .before .before .before .before .before .before .before .before .before .before .before .before .before .before .before .before .before .before .before .before .before .ended .ensures) ∙ not-true _ (c .before .before .before .before .before .before .before .before .before .before .before .before .before .before .before .before .before .before .before .before .before .before .if1 .taken)) (inl refl) (ap (λ (r : Stepped). stepping r (memory (c .before .before .before .before .before .before .before .before .before .before .before .before .before .before .own-step-in .last .1 .0) (c .before .before .before .before .before .before .before .before .before .before .before .before .before .before .own-step-in .last .1 .1 .0) (c .before .before .before .before .before .before .before .before .before .before .before .before .before .before .own-step-in .last .1 .1 .1 .0) (c .before .before .before .before .before .before .before .before .before .before .before .before .before .before .own-step-in .last .1 .1 .1 .1 .0) (c .before .before .before .before .before .before .before .before .before .before .before .before .before .before .own-step-in .last .1 .1 .1 .1 .1 .0))) (sym (c .enum-told .given .1)) ∙ c .before .before .before .before .before .before .before .before .before .before .before .before .before .before .own-step-in .ensures) ∙ loop .inv .0
+    let b = c .before .before .before .before .before .before .before .before .before .before .before .before .before .before .before .before .before .before .before .before .before .before in
+    let loop = b .before .before .loop in
+    let own-step-in = c .before .before .before .before .before .before .before .before .before .before .before .before .before .before .own-step-in in
+    run-refused geometry (loop .s) (memory (loop .nets1) (loop .nets2) (loop .ranges) (loop .depths) (loop .raw)) _ (memory (own-step-in .last .1 .0) (own-step-in .last .1 .1 .0) (own-step-in .last .1 .1 .1 .0) (own-step-in .last .1 .1 .1 .1 .0) (own-step-in .last .1 .1 .1 .1 .1 .0)) (sym (b .before .ended .ensures) ∙ not-true _ (b .if1 .taken)) (inl refl) (ap (λ (r : Stepped). stepping r (memory (own-step-in .last .1 .0) (own-step-in .last .1 .1 .0) (own-step-in .last .1 .1 .1 .0) (own-step-in .last .1 .1 .1 .1 .0) (own-step-in .last .1 .1 .1 .1 .1 .0))) (sym (c .enum-told .given .1)) ∙ own-step-in .ensures) ∙ loop .inv .0
 
 enum-told-2 : tie.Need-enum-told-2 Inv-loop μ-loop
 enum-told-2 c = search needs
@@ -99,8 +104,10 @@ same-length-10 c = c .before .before .before .before .before .before .before .be
 
 returns-2 : tie.Need-returns-2 Inv-loop μ-loop
 returns-2 c =
-    let loop = c .before .before .before .before .before .before .before .before .before .before .before .before .before .before .before .before .before .before .before .before .before .before .before .before .loop in
-    run-refused geometry (loop .s) (memory (loop .nets1) (loop .nets2) (loop .ranges) (loop .depths) (loop .raw)) _ (memory (c .before .before .before .before .before .before .before .before .before .before .before .before .before .before .own-step-in .last .1 .0) (c .before .before .before .before .before .before .before .before .before .before .before .before .before .before .own-step-in .last .1 .1 .0) (c .before .before .before .before .before .before .before .before .before .before .before .before .before .before .own-step-in .last .1 .1 .1 .0) (c .before .before .before .before .before .before .before .before .before .before .before .before .before .before .own-step-in .last .1 .1 .1 .1 .0) (c .before .before .before .before .before .before .before .before .before .before .before .before .before .before .own-step-in .last .1 .1 .1 .1 .1 .0)) (sym (c .before .before .before .before .before .before .before .before .before .before .before .before .before .before .before .before .before .before .before .before .before .before .before .ended .ensures) ∙ not-true _ (c .before .before .before .before .before .before .before .before .before .before .before .before .before .before .before .before .before .before .before .before .before .before .if1 .taken)) (inr refl) (ap (λ (r : Stepped). stepping r (memory (c .before .before .before .before .before .before .before .before .before .before .before .before .before .before .own-step-in .last .1 .0) (c .before .before .before .before .before .before .before .before .before .before .before .before .before .before .own-step-in .last .1 .1 .0) (c .before .before .before .before .before .before .before .before .before .before .before .before .before .before .own-step-in .last .1 .1 .1 .0) (c .before .before .before .before .before .before .before .before .before .before .before .before .before .before .own-step-in .last .1 .1 .1 .1 .0) (c .before .before .before .before .before .before .before .before .before .before .before .before .before .before .own-step-in .last .1 .1 .1 .1 .1 .0))) (sym (c .enum-told2 .given .1)) ∙ c .before .before .before .before .before .before .before .before .before .before .before .before .before .before .own-step-in .ensures) ∙ loop .inv .0
+    let b = c .before .before .before .before .before .before .before .before .before .before .before .before .before .before .before .before .before .before .before .before .before .before in
+    let loop = b .before .before .loop in
+    let own-step-in = c .before .before .before .before .before .before .before .before .before .before .before .before .before .before .own-step-in in
+    run-refused geometry (loop .s) (memory (loop .nets1) (loop .nets2) (loop .ranges) (loop .depths) (loop .raw)) _ (memory (own-step-in .last .1 .0) (own-step-in .last .1 .1 .0) (own-step-in .last .1 .1 .1 .0) (own-step-in .last .1 .1 .1 .1 .0) (own-step-in .last .1 .1 .1 .1 .1 .0)) (sym (b .before .ended .ensures) ∙ not-true _ (b .if1 .taken)) (inr refl) (ap (λ (r : Stepped). stepping r (memory (own-step-in .last .1 .0) (own-step-in .last .1 .1 .0) (own-step-in .last .1 .1 .1 .0) (own-step-in .last .1 .1 .1 .1 .0) (own-step-in .last .1 .1 .1 .1 .1 .0))) (sym (c .enum-told2 .given .1)) ∙ own-step-in .ensures) ∙ loop .inv .0
 
 same-length-11 : tie.Need-same-length-11 Inv-loop μ-loop
 same-length-11 c = c .before .before .loop .inv .1

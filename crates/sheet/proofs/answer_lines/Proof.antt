@@ -112,32 +112,37 @@ same-length c = search needs
 
 returns : tie.Need-returns
 returns c =
-    let args = c .before .before .before .before .before .before .before .before .before .before .before .before .before .before .before .before .before .before .before .before .before .before .before .before .before .before .before .before .before .before .before .before .before .before .before .before .before .before .before .before .before .before .before .before .before .before .before .before .before .before .args in
-    lines-print (questionOf (args .q) (lineOf (args .degree1) (args .knots1 .now) (args .mults1 .now) (args .coords1 .now) (args .weights1 .now)) (lineOf (args .degree2) (args .knots2 .now) (args .mults2 .now) (args .coords2 .now) (args .weights2 .now))) (c .before .before .before .before .before .before .before .before .before .before .before .before .before .before .before .before .before .before .before .before .before .before .before .before .before .before .before .before .before .before .before .before .before .before .before .before .before .before .before .before .piece-room .ensures .0) (c .before .before .before .before .before .before .before .before .before .before .before .before .before .before .before .before .before .before .before .before .before .before .before .before .before .before .before .before .before .before .before .before .before .before .before .before .before .before .before .piece-room2 .ensures .0) (c .before .before .before .before .before .before .before .before .before .before .before .before .before .before .before .before .before .before .before .before .before .before .before .before .before .before .before .before .before .before .before .before .before .before .before .before .before .before .net-room .ensures .0) (c .before .before .before .before .before .before .before .before .before .before .before .before .before .before .before .before .before .before .before .before .before .before .before .before .before .before .before .before .before .before .before .before .before .before .before .before .before .net-room2 .ensures .0) (c .before .before .before .before .before .before .before .before .before .before .before .before .before .before .before .before .before .before .before .before .before .before .before .before .before .before .before .before .before .before .before .before .before .before .before .before .range-room .ensures .0) (c .before .before .before .before .before .before .before .before .before .before .before .before .before .before .before .before .before .before .before .before .before .before .before .before .before .before .before .before .before .before .before .before .before .before .before .depth-room .ensures .0) (c .before .before .before .before .before .before .before .before .before .before .before .before .before .before .before .before .before .before .before .before .before .before .before .before .before .before .before .before .before .before .before .before .before .before .region-room .ensures .0) (c .before .before .before .before .before .before .before .before .before .before .before .before .before .before .before .before .before .before .before .before .before .before .before .before .before .before .before .before .before .before .before .before .before .region-room2 .ensures .0) (c .before .before .before .before .before .before .before .before .before .before .before .before .before .before .before .before .before .before .before .before .before .before .before .before .before .«open» .ensures) (args .out .now) (Open (c .before .before .before .before .before .before .before .before .before .before .before .before .before .before .before .before .before .st .given .0 .0)) (c .before .before .before .before .before .before .before .before .before .before .before .before .before .before .before .before .before .st .given .1) (c .before .before .before .before .before .before .before .before .answer-search .ensures)
+    let b = c .before .before .before .before .before .before .before .before .before .before .before .before .before .before .before .before .before .before .before .before .before .before .before .before .before .before .before .before .before .before .before .before .before in
+    let args = b .before .before .before .before .before .before .before .before .before .before .before .before .before .before .before .before .before .args in
+    lines-print (questionOf (args .q) (lineOf (args .degree1) (args .knots1 .now) (args .mults1 .now) (args .coords1 .now) (args .weights1 .now)) (lineOf (args .degree2) (args .knots2 .now) (args .mults2 .now) (args .coords2 .now) (args .weights2 .now))) (b .before .before .before .before .before .before .before .piece-room .ensures .0) (b .before .before .before .before .before .before .piece-room2 .ensures .0) (b .before .before .before .before .before .net-room .ensures .0) (b .before .before .before .before .net-room2 .ensures .0) (b .before .before .before .range-room .ensures .0) (b .before .before .depth-room .ensures .0) (b .before .region-room .ensures .0) (b .region-room2 .ensures .0) (c .before .before .before .before .before .before .before .before .before .before .before .before .before .before .before .before .before .before .before .before .before .before .before .before .before .«open» .ensures) (args .out .now) (Open (c .before .before .before .before .before .before .before .before .before .before .before .before .before .before .before .before .before .st .given .0 .0)) (c .before .before .before .before .before .before .before .before .before .before .before .before .before .before .before .before .before .st .given .1) (c .before .before .before .before .before .before .before .before .answer-search .ensures)
 
 same-length-2 : tie.Need-same-length-2
 same-length-2 c = search needs
 
 returns-2 : tie.Need-returns-2
 returns-2 c =
-    let args = c .before .before .before .before .before .before .before .before .before .before .before .before .before .before .before .before .before .before .before .before .before .before .before .before .before .before .before .before .before .before .before .before .before .before .before .before .before .before .before .args in
-    lines-print (questionOf (args .q) (lineOf (args .degree1) (args .knots1 .now) (args .mults1 .now) (args .coords1 .now) (args .weights1 .now)) (lineOf (args .degree2) (args .knots2 .now) (args .mults2 .now) (args .coords2 .now) (args .weights2 .now))) (c .before .before .before .before .before .before .before .before .before .before .before .before .before .before .before .before .before .before .before .before .before .before .before .before .before .before .before .before .before .piece-room .ensures .0) (c .before .before .before .before .before .before .before .before .before .before .before .before .before .before .before .before .before .before .before .before .before .before .before .before .before .before .before .before .piece-room2 .ensures .0) (c .before .before .before .before .before .before .before .before .before .before .before .before .before .before .before .before .before .before .before .before .before .before .before .before .before .before .before .net-room .ensures .0) (c .before .before .before .before .before .before .before .before .before .before .before .before .before .before .before .before .before .before .before .before .before .before .before .before .before .before .net-room2 .ensures .0) (c .before .before .before .before .before .before .before .before .before .before .before .before .before .before .before .before .before .before .before .before .before .before .before .before .before .range-room .ensures .0) (c .before .before .before .before .before .before .before .before .before .before .before .before .before .before .before .before .before .before .before .before .before .before .before .before .depth-room .ensures .0) (c .before .before .before .before .before .before .before .before .before .before .before .before .before .before .before .before .before .before .before .before .before .before .before .region-room .ensures .0) (c .before .before .before .before .before .before .before .before .before .before .before .before .before .before .before .before .before .before .before .before .before .before .region-room2 .ensures .0) (c .before .before .before .before .before .before .before .before .before .before .before .before .before .before .«open» .ensures) (args .out .now) (BadLine (c .before .before .before .before .before .before .line .given .0 .0) (c .before .before .before .before .before .before .line .given .0 .1 .0)) (c .before .before .before .before .before .before .line .given .1) (refused-prints (args .out .now) _ _ _ _ (c .before .before .before .admission-number .ensures) refl (c .before .before .put-refusal .ensures))
+    let b = c .before .before .before .before .before .before .before .before .before .before .before .before .before .before .before .before .before .before .before .before .before .before in
+    let args = b .before .before .before .before .before .before .before .before .before .before .before .before .before .before .before .before .before .args in
+    let line = c .before .before .before .before .before .before .line in
+    lines-print (questionOf (args .q) (lineOf (args .degree1) (args .knots1 .now) (args .mults1 .now) (args .coords1 .now) (args .weights1 .now)) (lineOf (args .degree2) (args .knots2 .now) (args .mults2 .now) (args .coords2 .now) (args .weights2 .now))) (b .before .before .before .before .before .before .before .piece-room .ensures .0) (b .before .before .before .before .before .before .piece-room2 .ensures .0) (b .before .before .before .before .before .net-room .ensures .0) (b .before .before .before .before .net-room2 .ensures .0) (b .before .before .before .range-room .ensures .0) (b .before .before .depth-room .ensures .0) (b .before .region-room .ensures .0) (b .region-room2 .ensures .0) (c .before .before .before .before .before .before .before .before .before .before .before .before .before .before .«open» .ensures) (args .out .now) (BadLine (line .given .0 .0) (line .given .0 .1 .0)) (line .given .1) (refused-prints (args .out .now) _ _ _ _ (c .before .before .before .admission-number .ensures) refl (c .before .before .put-refusal .ensures))
 
 same-length-3 : tie.Need-same-length-3
 same-length-3 c = search needs
 
 returns-3 : tie.Need-returns-3
 returns-3 c =
-    let args = c .before .before .before .before .before .before .before .before .before .before .before .before .before .before .before .before .before .before .before .before .before .before .before .before .before .before .before .before .before .before .before .before .before .before .before .before .before .before .before .before .args in
-    lines-print (questionOf (args .q) (lineOf (args .degree1) (args .knots1 .now) (args .mults1 .now) (args .coords1 .now) (args .weights1 .now)) (lineOf (args .degree2) (args .knots2 .now) (args .mults2 .now) (args .coords2 .now) (args .weights2 .now))) (c .before .before .before .before .before .before .before .before .before .before .before .before .before .before .before .before .before .before .before .before .before .before .before .before .before .before .before .before .before .before .piece-room .ensures .0) (c .before .before .before .before .before .before .before .before .before .before .before .before .before .before .before .before .before .before .before .before .before .before .before .before .before .before .before .before .before .piece-room2 .ensures .0) (c .before .before .before .before .before .before .before .before .before .before .before .before .before .before .before .before .before .before .before .before .before .before .before .before .before .before .before .before .net-room .ensures .0) (c .before .before .before .before .before .before .before .before .before .before .before .before .before .before .before .before .before .before .before .before .before .before .before .before .before .before .before .net-room2 .ensures .0) (c .before .before .before .before .before .before .before .before .before .before .before .before .before .before .before .before .before .before .before .before .before .before .before .before .before .before .range-room .ensures .0) (c .before .before .before .before .before .before .before .before .before .before .before .before .before .before .before .before .before .before .before .before .before .before .before .before .before .depth-room .ensures .0) (c .before .before .before .before .before .before .before .before .before .before .before .before .before .before .before .before .before .before .before .before .before .before .before .before .region-room .ensures .0) (c .before .before .before .before .before .before .before .before .before .before .before .before .before .before .before .before .before .before .before .before .before .before .before .region-room2 .ensures .0) (c .before .before .before .before .before .before .before .before .before .before .before .before .before .before .before .«open» .ensures) (args .out .now) (BadQuestion (c .before .before .before .before .before .before .before .a .given .0 .0)) (c .before .before .before .before .before .before .before .a .given .1) (refused-prints (args .out .now) _ _ _ _ (c .before .before .before .before .asked-number .ensures) (c .before .before .before .asked-line .ensures) (c .before .before .put-refusal2 .ensures))
+    let b = c .before .before .before .before .before .before .before .before .before .before .before .before .before .before .before .before .before .before .before .before .before .before .before in
+    let args = b .before .before .before .before .before .before .before .before .before .before .before .before .before .before .before .before .before .args in
+    lines-print (questionOf (args .q) (lineOf (args .degree1) (args .knots1 .now) (args .mults1 .now) (args .coords1 .now) (args .weights1 .now)) (lineOf (args .degree2) (args .knots2 .now) (args .mults2 .now) (args .coords2 .now) (args .weights2 .now))) (b .before .before .before .before .before .before .before .piece-room .ensures .0) (b .before .before .before .before .before .before .piece-room2 .ensures .0) (b .before .before .before .before .before .net-room .ensures .0) (b .before .before .before .before .net-room2 .ensures .0) (b .before .before .before .range-room .ensures .0) (b .before .before .depth-room .ensures .0) (b .before .region-room .ensures .0) (b .region-room2 .ensures .0) (c .before .before .before .before .before .before .before .before .before .before .before .before .before .before .before .«open» .ensures) (args .out .now) (BadQuestion (c .before .before .before .before .before .before .before .a .given .0 .0)) (c .before .before .before .before .before .before .before .a .given .1) (refused-prints (args .out .now) _ _ _ _ (c .before .before .before .before .asked-number .ensures) (c .before .before .before .asked-line .ensures) (c .before .before .put-refusal2 .ensures))
 
 same-length-4 : tie.Need-same-length-4
 same-length-4 c = search needs
 
 returns-4 : tie.Need-returns-4
 returns-4 c =
-    let args = c .before .before .before .before .before .before .before .before .before .before .before .before .before .before .before .before .before .before .before .before .before .before .before .before .before .before .before .before .before .before .before .before .before .before .before .before .before .args in
-    lines-print (questionOf (args .q) (lineOf (args .degree1) (args .knots1 .now) (args .mults1 .now) (args .coords1 .now) (args .weights1 .now)) (lineOf (args .degree2) (args .knots2 .now) (args .mults2 .now) (args .coords2 .now) (args .weights2 .now))) (c .before .before .before .before .before .before .before .before .before .before .before .before .before .before .before .before .before .before .before .before .before .before .before .before .before .before .before .piece-room .ensures .0) (c .before .before .before .before .before .before .before .before .before .before .before .before .before .before .before .before .before .before .before .before .before .before .before .before .before .before .piece-room2 .ensures .0) (c .before .before .before .before .before .before .before .before .before .before .before .before .before .before .before .before .before .before .before .before .before .before .before .before .before .net-room .ensures .0) (c .before .before .before .before .before .before .before .before .before .before .before .before .before .before .before .before .before .before .before .before .before .before .before .before .net-room2 .ensures .0) (c .before .before .before .before .before .before .before .before .before .before .before .before .before .before .before .before .before .before .before .before .before .before .before .range-room .ensures .0) (c .before .before .before .before .before .before .before .before .before .before .before .before .before .before .before .before .before .before .before .before .before .before .depth-room .ensures .0) (c .before .before .before .before .before .before .before .before .before .before .before .before .before .before .before .before .before .before .before .before .before .region-room .ensures .0) (c .before .before .before .before .before .before .before .before .before .before .before .before .before .before .before .before .before .before .before .before .region-room2 .ensures .0) (c .before .before .before .before .before .before .before .before .before .before .before .before .«open» .ensures) (args .out .now) NoRoom (c .before .before .before .before .enum-told .given .1) (c .before .before .put-refusal3 .ensures)
+    let b = c .before .before .before .before .before .before .before .before .before .before .before .before .before .before .before .before .before .before .before .before in
+    let args = b .before .before .before .before .before .before .before .before .before .before .before .before .before .before .before .before .before .args in
+    lines-print (questionOf (args .q) (lineOf (args .degree1) (args .knots1 .now) (args .mults1 .now) (args .coords1 .now) (args .weights1 .now)) (lineOf (args .degree2) (args .knots2 .now) (args .mults2 .now) (args .coords2 .now) (args .weights2 .now))) (b .before .before .before .before .before .before .before .piece-room .ensures .0) (b .before .before .before .before .before .before .piece-room2 .ensures .0) (b .before .before .before .before .before .net-room .ensures .0) (b .before .before .before .before .net-room2 .ensures .0) (b .before .before .before .range-room .ensures .0) (b .before .before .depth-room .ensures .0) (b .before .region-room .ensures .0) (b .region-room2 .ensures .0) (c .before .before .before .before .before .before .before .before .before .before .before .before .«open» .ensures) (args .out .now) NoRoom (c .before .before .before .before .enum-told .given .1) (c .before .before .put-refusal3 .ensures)
 
 pub answer-lines-spec : {M : Type 1} → statement M
 answer-lines-spec =

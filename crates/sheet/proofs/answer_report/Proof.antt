@@ -18,11 +18,12 @@ put-counts-requires c κs = search needs
 
 put-regions-requires : tie.Need-put-regions-requires
 put-regions-requires c κs =
-    let args = c .before .before .before .before .before .before .before .before .before .before .before .before .before .before .before .before .before .before .before .before .before .before .before .args in
-    let m = few-told (args .st) (memory (args .nets1 .now) (args .nets2 .now) (args .ranges .now) (args .depths .now) (args .raw .now)) (args .list .now) (c .before .before .before .before .before .before .before .before .before .before .before .before .before .report .ensures) (c .before .before .before .before .before .before .before .w .given .1) in
-    let k = c .before .before .before .before .before .before .before .before .before .before .before .before .before .report .kept .1 .1 .1 .1 .1 .1 .0 in
+    let b = c .before .before .before .before .before .before .before .before .before .before .before .before .before in
+    let args = b .before .before .before .before .before .before .before .before .before .before .args in
+    let m = few-told (args .st) (memory (args .nets1 .now) (args .nets2 .now) (args .ranges .now) (args .depths .now) (args .raw .now)) (args .list .now) (b .report .ensures) (c .before .before .before .before .before .before .before .w .given .1) in
+    let k = b .report .kept .1 .1 .1 .1 .1 .1 .0 in
     let j = c .before .before .before .before .put-counts .kept .0 in
-    let p = c .before .before .before .before .before .before .before .before .before .before .before .before .before .before .before .before .before .before .before .before .before .before .before .pre in
+    let p = b .before .before .before .before .before .before .before .before .before .before .pre in
     (omega (arith, m, k), omega (arith, m, j, p .0, p .1, c .before .before .before .before .put-counts .ensures .1))
 
 enum-told : tie.Need-enum-told
@@ -48,10 +49,11 @@ same-length-3 c = search needs
 
 returns : tie.Need-returns
 returns c =
-    let args = c .before .before .before .before .before .before .before .before .before .before .before .before .before .before .before .before .before .before .before .before .before .before .before .before .before .before .args in
-    let m = few-told (args .st) (memory (args .nets1 .now) (args .nets2 .now) (args .ranges .now) (args .depths .now) (args .raw .now)) (args .list .now) (c .before .before .before .before .before .before .before .before .before .before .before .before .before .before .before .before .report .ensures) (c .before .before .before .before .before .before .before .before .before .before .w .given .1) in
-    let p = c .before .before .before .before .before .before .before .before .before .before .before .before .before .before .before .before .before .before .before .before .before .before .before .before .before .before .pre in
-    told-prints (args .st) (memory (args .nets1 .now) (args .nets2 .now) (args .ranges .now) (args .depths .now) (args .raw .now)) (args .list .now) (c .before .before .before .before .before .before .before .before .before .before .before .before .before .before .before .before .report .ensures) (args .out .now) (c .before .before .before .before .before .before .before .before .before .before .w .given .1) (c .before .before .before .before .before .before .before .put-counts .ensures .0) (c .before .before .put-regions .ensures .0) (omega (arith, m, p .0, p .1, c .before .before .before .before .before .before .before .put-counts .ensures .1, c .before .before .put-regions .ensures .1))
+    let b = c .before .before .before .before .before .before .before .before .before .before in
+    let args = b .before .before .before .before .before .before .before .before .before .before .before .before .before .before .before .before .args in
+    let m = few-told (args .st) (memory (args .nets1 .now) (args .nets2 .now) (args .ranges .now) (args .depths .now) (args .raw .now)) (args .list .now) (b .before .before .before .before .before .before .report .ensures) (b .w .given .1) in
+    let p = b .before .before .before .before .before .before .before .before .before .before .before .before .before .before .before .before .pre in
+    told-prints (args .st) (memory (args .nets1 .now) (args .nets2 .now) (args .ranges .now) (args .depths .now) (args .raw .now)) (args .list .now) (b .before .before .before .before .before .before .report .ensures) (args .out .now) (b .w .given .1) (c .before .before .before .before .before .before .before .put-counts .ensures .0) (c .before .before .put-regions .ensures .0) (omega (arith, m, p .0, p .1, c .before .before .before .before .before .before .before .put-counts .ensures .1, c .before .before .put-regions .ensures .1))
 
 same-length-4 : tie.Need-same-length-4
 same-length-4 c = search needs

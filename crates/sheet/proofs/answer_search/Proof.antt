@@ -50,8 +50,9 @@ same-length-7 c = search needs
 
 returns : tie.Need-returns
 returns c =
-    let args = c .before .before .before .before .before .before .before .before .before .before .before .before .before .before .before .before .before .before .before .before .before .before .before .before .before .before .before .before .before .before .before .before .before .before .before .before .before .before .before .before .args in
-    search-prints (args .st) (memory (args .nets1 .now) (args .nets2 .now) (args .ranges .now) (args .depths .now) (args .raw .now)) (args .list .now) (c .before .before .before .before .before .before .before .before .before .before .before .before .before .before .before .before .before .before .before .before .before .before .before .before .before .before .before .run .ensures) (args .out .now) (Next (c .before .before .before .before .before .before .before .before .before .before .before .before .before .before .before .end .given .0 .0)) (c .before .before .before .before .before .before .before .before .before .before .before .before .before .before .before .end .given .1) (c .before .before .before .before .before .before .answer-report .ensures)
+    let b = c .before .before .before .before .before .before .before .before .before .before .before .before .before .before .before in
+    let args = b .before .before .before .before .before .before .before .before .before .before .before .before .before .before .before .before .before .before .before .before .before .before .before .before .before .args in
+    search-prints (args .st) (memory (args .nets1 .now) (args .nets2 .now) (args .ranges .now) (args .depths .now) (args .raw .now)) (args .list .now) (b .before .before .before .before .before .before .before .before .before .before .before .before .run .ensures) (args .out .now) (Next (b .end .given .0 .0)) (b .end .given .1) (c .before .before .before .before .before .before .answer-report .ensures)
 
 same-length-8 : tie.Need-same-length-8
 same-length-8 c = search needs

@@ -23,8 +23,9 @@ question-at-requires c κs = c .before .before .before .before .walk .ensures .1
 
 answer-first-requires : tie.Need-answer-first-requires
 answer-first-requires c κs =
-    let i = c .before .before .before .before .before .before .walk .ensures .1 (c .before .before .before .before .if1 .left) in
-    (c .before .before .before .before .before .before .before .before .before .pre, short (c .before .before .before .before .before .before .before .before .before .args .s .now) (c .before .before .before .before .before .before .walk .result) (c .before .before .before .before .if1 .left) (c .before .before .before .before .before .before .walk .ensures .0), i .first, i .second)
+    let b = c .before .before .before .before .before .before in
+    let i = b .walk .ensures .1 (c .before .before .before .before .if1 .left) in
+    (b .before .before .before .pre, short (b .before .before .before .args .s .now) (b .walk .result) (c .before .before .before .before .if1 .left) (b .walk .ensures .0), i .first, i .second)
 
 same-length-2 : tie.Need-same-length-2
 same-length-2 c = search needs

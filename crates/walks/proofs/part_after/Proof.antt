@@ -66,8 +66,9 @@ no-part-requires-5 c κs = search needs
 
 returns-5 : tie.Need-returns-5
 returns-5 c =
-    let args = c .before .before .before .before .before .before .before .before .before .before .args in
-    here-refused (args .s .now) (args .no) (partOf (args .s .now) (args .kind) (args .at)) (sizeOf (args .kind)) (c .no-part5 .result) 3 (c .no-part5 .ensures) (λ e. omega arith) (c .before .before .before .before .before .before .before .before .if1 .left) (too-long (args .s .now) (args .kind) (args .at) (c .before .before .before .before .before .before .word .result) (c .before .before .before .before .before .before .word .ensures .0) (c .before .before .before .before .before .before .before .if2 .left) (c .before .before .before .before .before .if3 .left) (c .before .before .size .result) (c .before .before .size .ensures .0) (sym (c .before .before .before .before .bad-count .ensures) ∙ c .before .before .before .if4 .left) (c .before .if5 .taken))
+    let b = c .before .before .before .before .before .before in
+    let args = b .before .before .before .before .args in
+    here-refused (args .s .now) (args .no) (partOf (args .s .now) (args .kind) (args .at)) (sizeOf (args .kind)) (c .no-part5 .result) 3 (c .no-part5 .ensures) (λ e. omega arith) (b .before .before .if1 .left) (too-long (args .s .now) (args .kind) (args .at) (b .word .result) (b .word .ensures .0) (b .before .if2 .left) (c .before .before .before .before .before .if3 .left) (c .before .before .size .result) (c .before .before .size .ensures .0) (sym (c .before .before .before .before .bad-count .ensures) ∙ c .before .before .before .if4 .left) (c .before .if5 .taken))
 
 add-t10 : tie.Need-add-t10
 add-t10 c = search needs

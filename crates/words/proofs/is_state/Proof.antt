@@ -48,25 +48,33 @@ shared-slice-read-if8 : tie.Need-shared-slice-read-if8
 shared-slice-read-if8 c = search needs
 
 returns-8 : tie.Need-returns-8
-returns-8 c = simp (le-leb _ _ (c .before .before .before .before .before .before .before .before .before .before .before .before .before .before .if1 .left), le-leb _ _ (c .before .before .before .before .before .before .before .before .before .before .before .before .if2 .left), le-leb _ _ (c .before .before .before .before .before .before .before .before .before .before .if3 .left), le-leb _ _ (c .before .before .before .before .before .before .before .before .if4 .left), le-leb _ _ (c .before .before .before .before .before .before .if5 .left), le-leb _ _ (c .before .before .before .before .if6 .left), le-leb _ _ (c .before .before .if7 .left), lt-leb _ _ (c .if8 .taken))
+returns-8 c =
+    let b = c .before .before .before .before .before .before in
+    simp (le-leb _ _ (b .before .before .before .before .before .before .before .before .if1 .left), le-leb _ _ (b .before .before .before .before .before .before .if2 .left), le-leb _ _ (b .before .before .before .before .if3 .left), le-leb _ _ (b .before .before .if4 .left), le-leb _ _ (b .if5 .left), le-leb _ _ (c .before .before .before .before .if6 .left), le-leb _ _ (c .before .before .if7 .left), lt-leb _ _ (c .if8 .taken))
 
 shared-slice-read-if9 : tie.Need-shared-slice-read-if9
 shared-slice-read-if9 c = search needs
 
 returns-9 : tie.Need-returns-9
-returns-9 c = simp (le-leb _ _ (c .before .before .before .before .before .before .before .before .before .before .before .before .before .before .before .before .if1 .left), le-leb _ _ (c .before .before .before .before .before .before .before .before .before .before .before .before .before .before .if2 .left), le-leb _ _ (c .before .before .before .before .before .before .before .before .before .before .before .before .if3 .left), le-leb _ _ (c .before .before .before .before .before .before .before .before .before .before .if4 .left), le-leb _ _ (c .before .before .before .before .before .before .before .before .if5 .left), le-leb _ _ (c .before .before .before .before .before .before .if6 .left), le-leb _ _ (c .before .before .before .before .if7 .left), le-leb _ _ (c .before .before .if8 .left), lt-leb _ _ (c .if9 .taken))
+returns-9 c =
+    let b = c .before .before .before .before .before .before .before .before in
+    simp (le-leb _ _ (b .before .before .before .before .before .before .before .before .if1 .left), le-leb _ _ (b .before .before .before .before .before .before .if2 .left), le-leb _ _ (b .before .before .before .before .if3 .left), le-leb _ _ (b .before .before .if4 .left), le-leb _ _ (b .if5 .left), le-leb _ _ (c .before .before .before .before .before .before .if6 .left), le-leb _ _ (c .before .before .before .before .if7 .left), le-leb _ _ (c .before .before .if8 .left), lt-leb _ _ (c .if9 .taken))
 
 shared-slice-read-if10 : tie.Need-shared-slice-read-if10
 shared-slice-read-if10 c = search needs
 
 returns-10 : tie.Need-returns-10
-returns-10 c = simp (le-leb _ _ (c .before .before .before .before .before .before .before .before .before .before .before .before .before .before .before .before .before .before .if1 .left), le-leb _ _ (c .before .before .before .before .before .before .before .before .before .before .before .before .before .before .before .before .if2 .left), le-leb _ _ (c .before .before .before .before .before .before .before .before .before .before .before .before .before .before .if3 .left), le-leb _ _ (c .before .before .before .before .before .before .before .before .before .before .before .before .if4 .left), le-leb _ _ (c .before .before .before .before .before .before .before .before .before .before .if5 .left), le-leb _ _ (c .before .before .before .before .before .before .before .before .if6 .left), le-leb _ _ (c .before .before .before .before .before .before .if7 .left), le-leb _ _ (c .before .before .before .before .if8 .left), le-leb _ _ (c .before .before .if9 .left), lt-leb _ _ (c .if10 .taken))
+returns-10 c =
+    let b = c .before .before .before .before .before .before .before .before in
+    simp (le-leb _ _ (b .before .before .before .before .before .before .before .before .before .before .if1 .left), le-leb _ _ (b .before .before .before .before .before .before .before .before .if2 .left), le-leb _ _ (b .before .before .before .before .before .before .if3 .left), le-leb _ _ (b .before .before .before .before .if4 .left), le-leb _ _ (b .before .before .if5 .left), le-leb _ _ (b .if6 .left), le-leb _ _ (c .before .before .before .before .before .before .if7 .left), le-leb _ _ (c .before .before .before .before .if8 .left), le-leb _ _ (c .before .before .if9 .left), lt-leb _ _ (c .if10 .taken))
 
 shared-slice-read-result : tie.Need-shared-slice-read-result
 shared-slice-read-result c = search needs
 
 returns-11 : tie.Need-returns-11
-returns-11 c = last-word (c .before .before .before .before .before .before .before .before .before .before .before .before .before .before .before .before .before .before .before .before .args .w .now) (le-leb _ _ (c .before .before .before .before .before .before .before .before .before .before .before .before .before .before .before .before .before .before .before .if1 .left)) (le-leb _ _ (c .before .before .before .before .before .before .before .before .before .before .before .before .before .before .before .before .before .if2 .left)) (le-leb _ _ (c .before .before .before .before .before .before .before .before .before .before .before .before .before .before .before .if3 .left)) (le-leb _ _ (c .before .before .before .before .before .before .before .before .before .before .before .before .before .if4 .left)) (le-leb _ _ (c .before .before .before .before .before .before .before .before .before .before .before .if5 .left)) (le-leb _ _ (c .before .before .before .before .before .before .before .before .before .if6 .left)) (le-leb _ _ (c .before .before .before .before .before .before .before .if7 .left)) (le-leb _ _ (c .before .before .before .before .before .if8 .left)) (le-leb _ _ (c .before .before .before .if9 .left)) (le-leb _ _ (c .before .if10 .left))
+returns-11 c =
+    let b = c .before .before .before .before .before .before .before .before .before .before .before in
+    last-word (b .before .before .before .before .before .before .before .before .before .args .w .now) (le-leb _ _ (b .before .before .before .before .before .before .before .before .if1 .left)) (le-leb _ _ (b .before .before .before .before .before .before .if2 .left)) (le-leb _ _ (b .before .before .before .before .if3 .left)) (le-leb _ _ (b .before .before .if4 .left)) (le-leb _ _ (b .if5 .left)) (le-leb _ _ (c .before .before .before .before .before .before .before .before .before .if6 .left)) (le-leb _ _ (c .before .before .before .before .before .before .before .if7 .left)) (le-leb _ _ (c .before .before .before .before .before .if8 .left)) (le-leb _ _ (c .before .before .before .if9 .left)) (le-leb _ _ (c .before .if10 .left))
 
 pub is-state-spec : {M : Type 1} → statement M
 is-state-spec =
