@@ -217,7 +217,7 @@ fn judge_points(p: &[f64], a: Aabb, q: &[f64], b: Aabb, gap: f64) -> Verdict
 }
 
 // The same, with Unseparated where a net is out of measure and has no points.
-fn judge_measured(p: &[f64], a: Aabb, q: &[f64], b: Aabb, gap: f64) -> Verdict
+pub fn judge_measured(p: &[f64], a: Aabb, q: &[f64], b: Aabb, gap: f64) -> Verdict
     ensures { λ r. ⌜ r ≡ measuredVerdict gap a b (now (p .entry)) (now (q .entry)) ⌝ }
 {
     if p.len() < 3 {
@@ -229,27 +229,18 @@ fn judge_measured(p: &[f64], a: Aabb, q: &[f64], b: Aabb, gap: f64) -> Verdict
     judge_points(p, a, q, b, gap)
 }
 
-// The verdict on two nets and a gap, and the nets' boxes. Each net is divided once, its points into the room p or q.
-pub fn judge_in(first: &[f64], second: &[f64], gap: f64, p: &mut [f64], q: &mut [f64]) -> Judged
-    requires { ⌜ (length (now p) ≡ 78) × (length (now q) ≡ 78) ⌝ }
-    ensures { λ r. ⌜ r ≡ judgedOf gap (now (first .entry)) (now (second .entry)) ⌝ }
-    ensures { λ r. ⌜ (now (p .exit) ≡ measuredIn (now (first .entry)) (now (p .entry))) × (now (q .exit) ≡ measuredIn (now (second .entry)) (now (q .entry))) ⌝ }
-{
-    let n = boxes::measure(first, p);
-    let m = boxes::measure(second, q);
-    let a = boxes::measured_box(&p[..n]);
-    let b = boxes::measured_box(&q[..m]);
-    let verdict = judge_measured(&p[..n], a, &q[..m], b, gap);
-    Judged { verdict, a, b }
-}
-
-// The same in room of its own.
+// The verdict on two nets and a gap, and the nets' boxes.
 pub fn judge_boxes(first: &[f64], second: &[f64], gap: f64) -> Judged
     ensures { λ r. ⌜ r ≡ judgedOf gap (now (first .entry)) (now (second .entry)) ⌝ }
 {
     let mut p = boxes::scratch();
     let mut q = boxes::scratch();
-    judge_in(first, second, gap, &mut p, &mut q)
+    let n = boxes::measure(first, &mut p);
+    let m = boxes::measure(second, &mut q);
+    let a = boxes::measured_box(&p[..n]);
+    let b = boxes::measured_box(&q[..m]);
+    let verdict = judge_measured(&p[..n], a, &q[..m], b, gap);
+    Judged { verdict, a, b }
 }
 
 // The verdict on two nets and a gap.

@@ -8,15 +8,24 @@ ghost use Rattle.boxes.specs.Boxes.{secondHalved};
 ghost use Rattle.regions.specs.Regions.{flat};
 ghost use Rattle.nodes.specs.Geometry.{regionWith};
 ghost use Rattle.nodes.specs.Nets.{bothBoxes};
-ghost use Rattle.nodes.specs.Moves.{settledState, givenState, stoppedState, halvedState};
+ghost use Rattle.nodes.specs.Moves.{settledState, givenState, stoppedState, halvedState, movedState, MayMove};
 ghost use Rattle.nodes.specs.Writes.{slotsAfter, rangesAfter, depthsAfter, Above};
 use boxes::Aabb;
 use regions::Region;
 use states::State;
 
+// What a step does with the node on top.
+pub enum Move {
+    Settled,
+    GivenUp,
+    // no allowance is left: it stays, and the search ends
+    Kept,
+    Halved,
+}
+
 // ---- what a step does to the state
 
-pub fn settled(st: State, k: u32) -> State
+fn settled(st: State, k: u32) -> State
     requires { ⌜ (st .settled < 4294967295) × (st .visits < 18446744073709551615) ⌝ }
     ensures { λ r. ⌜ r ≡ settledState k st ⌝ }
 {
@@ -38,7 +47,7 @@ fn given_up(st: State, k: u32) -> State
     next
 }
 
-pub fn stopped(st: State) -> State
+fn stopped(st: State) -> State
     requires { ⌜ (st .unspent ≡ 0) × (st .visits < 18446744073709551615) ⌝ }
     ensures { λ r. ⌜ r ≡ stoppedState st ⌝ }
 {
@@ -58,6 +67,19 @@ fn halved(st: State, k: u32) -> State
     next.splits = st.splits + 1;
     next.unspent = st.unspent - 1;
     next
+}
+
+// The state after this was done with node k, the top.
+pub fn moved(st: State, k: u32, m: Move) -> State
+    requires { ⌜ MayMove m st k ⌝ }
+    ensures { λ r. ⌜ r ≡ movedState m k st ⌝ }
+{
+    match m {
+        Move::Settled => settled(st, k),
+        Move::GivenUp => given_up(st, k),
+        Move::Kept => stopped(st),
+        Move::Halved => halved(st, k),
+    }
 }
 
 // ---- what it does to the memory
@@ -124,16 +146,12 @@ fn deepen(depths: &mut [u8], k: usize, depth: u8)
     depths[k + 1] = depth + 1;
 }
 
-// ---- both
-
 // Node k is given up: its region goes to the raw list.
-pub fn give_up(st: State, k: u32, a: Aabb, b: Aabb, ranges: &[f64], raw: &mut [f64]) -> State
-    requires { ⌜ ((k + 1) * 4 ≤ length (now ranges)) × ((st .given + 1) * 10 ≤ length (now raw)) × (st .given < 4294967295) × (st .visits < 18446744073709551615) ⌝ }
-    ensures { λ r. ⌜ r ≡ givenState k st ⌝ }
+pub fn give_up(st: State, k: u32, a: Aabb, b: Aabb, ranges: &[f64], raw: &mut [f64])
+    requires { ⌜ ((k + 1) * 4 ≤ length (now ranges)) × ((st .given + 1) * 10 ≤ length (now raw)) ⌝ }
     ensures { λ r. ⌜ now (raw .exit) ≡ patch (now (raw .entry)) (st .given * 10) (flat (regionWith (bothBoxes a b) (block 4 k (now (ranges .entry))))) ⌝ }
 {
     regions::store(raw, st.given as usize, region_of(a, b, ranges, k as usize));
-    given_up(st, k)
 }
 
 // Node k is halved along the line with the larger box, along the second where they are equal.
@@ -147,10 +165,10 @@ pub fn halve(
     nets2: &mut [f64],
     ranges: &mut [f64],
     depths: &mut [u8],
-) -> State
+)
     requires { ⌜ Above st k (record { nets1 = length (now nets1); nets2 = length (now nets2); ranges = length (now ranges); depths = length (now depths); raw = 0 }) ⌝ }
-    requires { ⌜ (depth < 64) × (1 ≤ st .unspent) × (st .splits < 4294967295) × (st .visits < 18446744073709551615) ⌝ }
-    ensures { λ r. ⌜ (r ≡ halvedState k (st .unspent - 1) st) × (now (nets1 .exit) ≡ slotsAfter (not (secondHalved a b)) (st .width1) k (now (nets1 .entry))) × (now (nets2 .exit) ≡ slotsAfter (secondHalved a b) (st .width2) k (now (nets2 .entry))) × (now (ranges .exit) ≡ rangesAfter (secondHalved a b) k (now (ranges .entry))) × (now (depths .exit) ≡ depthsAfter depth k (now (depths .entry))) ⌝ }
+    requires { ⌜ depth < 64 ⌝ }
+    ensures { λ r. ⌜ (now (nets1 .exit) ≡ slotsAfter (not (secondHalved a b)) (st .width1) k (now (nets1 .entry))) × (now (nets2 .exit) ≡ slotsAfter (secondHalved a b) (st .width2) k (now (nets2 .entry))) × (now (ranges .exit) ≡ rangesAfter (secondHalved a b) k (now (ranges .entry))) × (now (depths .exit) ≡ depthsAfter depth k (now (depths .entry))) ⌝ }
 {
     let second = boxes::second_halved(a, b);
     let at = k as usize;
@@ -158,5 +176,4 @@ pub fn halve(
     split_net(nets2, at, st.width2 as usize, second);
     split_ranges(ranges, at, second);
     deepen(depths, at, depth);
-    halved(st, k)
 }

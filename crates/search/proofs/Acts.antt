@@ -12,7 +12,7 @@ use borrow.Author.Tests.{le-leb, lt-leb}
 use Rattle.floats.specs.Stations.{Piece}
 use Rattle.lists.specs.Parts.{block, patch}
 use Rattle.lists.proofs.Parts.{part-length}
-use Rattle.verdicts.specs.declared.Verdict.the-variants.{Settled, Split, Unseparated}
+use Rattle.verdicts.specs.declared.Verdict.the-variants.{Split, Unseparated}
 use Rattle.nets.specs.Slots.{splitSlot, copySlot}
 use Rattle.boxes.specs.declared.Aabb.{Aabb}
 use Rattle.boxes.specs.Boxes.{secondHalved}
@@ -23,7 +23,7 @@ use Rattle.states.specs.States.{Memory, memory, depthAt}
 use Rattle.search.specs.declared.Stepped.the-variants.{Next}
 use Rattle.nodes.specs.Geometry.{regionWith}
 use Rattle.nodes.specs.Nets.{bothBoxes, geometry}
-use Rattle.nodes.specs.Moves.{settledState, givenState, stoppedState, halvedState}
+use Rattle.nodes.specs.Moves.{givenState, stoppedState, halvedState}
 use Rattle.search.specs.Steps.{stepping, part1, part2, halves, splitMemory, giveUpAt, divideAt, actOn}
 use Rattle.nodes.specs.Writes.{slotsAfter, rangesHalved, rangesAfter, depthsAfter}
 
@@ -50,26 +50,26 @@ ranges-split false k l a b = refl
 
 module _ (x : State) (u : Memory) (k d : ℕ) (a b : Aabb) (ea : a ≡ boxOf (block (4 * x .width1) k (u .nets1))) (eb : b ≡ boxOf (block (4 * x .width2) k (u .nets2))) where
   -- ---- given up
-  give-is : (r : State) (w : List Float) → r ≡ givenState k x → w ≡ patch (u .raw) (x .given * 10) (flat (regionWith (bothBoxes a b) (block 4 k (u .ranges))))
-      → stepping (Next r) (memory (u .nets1) (u .nets2) (u .ranges) (u .depths) w) ≡ giveUpAt geometry k x u (part1 x u k) (part2 x u k)
-  give-is r w e f =
+  give-is : (w : List Float) → w ≡ patch (u .raw) (x .given * 10) (flat (regionWith (bothBoxes a b) (block 4 k (u .ranges))))
+      → stepping (Next (givenState k x)) (memory (u .nets1) (u .nets2) (u .ranges) (u .depths) w) ≡ giveUpAt geometry k x u (part1 x u k) (part2 x u k)
+  give-is w f =
       let g = f ∙ (λ i. patch (u .raw) (x .given * 10) (flat (regionWith (bothBoxes (ea i) (eb i)) (block 4 k (u .ranges))))) in
-      λ i. stepping (Next (e i)) (memory (u .nets1) (u .nets2) (u .ranges) (u .depths) (g i))
+      λ i. stepping (Next (givenState k x)) (memory (u .nets1) (u .nets2) (u .ranges) (u .depths) (g i))
 
-  pub unseparated-is : (r : State) (w : List Float) → r ≡ givenState k x → w ≡ patch (u .raw) (x .given * 10) (flat (regionWith (bothBoxes a b) (block 4 k (u .ranges))))
-      → stepping (Next r) (memory (u .nets1) (u .nets2) (u .ranges) (u .depths) w) ≡ actOn geometry (suc k) Unseparated x u
-  unseparated-is r w e f = give-is r w e f
+  pub unseparated-is : (w : List Float) → w ≡ patch (u .raw) (x .given * 10) (flat (regionWith (bothBoxes a b) (block 4 k (u .ranges))))
+      → stepping (Next (givenState k x)) (memory (u .nets1) (u .nets2) (u .ranges) (u .depths) w) ≡ actOn geometry (suc k) Unseparated x u
+  unseparated-is w f = give-is w f
 
-  pub too-deep-is : (r : State) (w : List Float) → d ≡ depthAt (u .depths) k → 64 ≤ d → r ≡ givenState k x → w ≡ patch (u .raw) (x .given * 10) (flat (regionWith (bothBoxes a b) (block 4 k (u .ranges))))
-      → stepping (Next r) (memory (u .nets1) (u .nets2) (u .ranges) (u .depths) w) ≡ actOn geometry (suc k) Split x u
-  too-deep-is r w ed h e f =
+  pub too-deep-is : (w : List Float) → d ≡ depthAt (u .depths) k → 64 ≤ d → w ≡ patch (u .raw) (x .given * 10) (flat (regionWith (bothBoxes a b) (block 4 k (u .ranges))))
+      → stepping (Next (givenState k x)) (memory (u .nets1) (u .nets2) (u .ranges) (u .depths) w) ≡ actOn geometry (suc k) Split x u
+  too-deep-is w ed h f =
       let t : leb 64 (depthAt (u .depths) k) ≡ true = le-leb 64 (depthAt (u .depths) k) (let z = ed in omega arith) in
-      rw t (give-is r w e f)
+      rw t (give-is w f)
 
-  pub stopped-is : (r : State) → d ≡ depthAt (u .depths) k → d < 64 → x .unspent ≡ 0 → r ≡ stoppedState x → stepping (Next r) u ≡ actOn geometry (suc k) Split x u
-  stopped-is r ed h z e =
+  pub stopped-is : d ≡ depthAt (u .depths) k → d < 64 → x .unspent ≡ 0 → stepping (Next (stoppedState x)) u ≡ actOn geometry (suc k) Split x u
+  stopped-is ed h z =
       let t : leb 64 (depthAt (u .depths) k) ≡ false = lt-leb 64 (depthAt (u .depths) k) (let y = ed in omega arith) in
-      rw (t, z) (ap (λ (y : State). stepping (Next y) u) e)
+      rw (t, z) refl
 
   -- ---- halved
   memory-split : (n1 n2 rg : List Float) (dp : List ℕ) → length (block (4 * x .width1) k (u .nets1)) ≡ 4 * x .width1 → length (block (4 * x .width2) k (u .nets2)) ≡ 4 * x .width2
@@ -84,29 +84,24 @@ module _ (x : State) (u : Memory) (k d : ℕ) (a b : Aabb) (ea : a ≡ boxOf (bl
       let f3 = e3 ∙ (λ i. rangesAfter (s i) k (u .ranges)) ∙ ap (patch (u .ranges) (k * 4)) (ranges-split t k (block 4 k (u .ranges)) (part1 x u k .net) (part2 x u k .net)) in
       λ i. memory (f1 i) (f2 i) (f3 i) (e4 i) (u .raw)
 
-  spend : (n : ℕ) (r : State) (m : Memory) → 1 ≤ n → r ≡ halvedState k (n - 1) x → m ≡ splitMemory geometry k x u (part1 x u k) (part2 x u k) (suc d)
-      → stepping (Next r) m ≡ divideAt geometry false n k x u (part1 x u k) (part2 x u k) d
-  spend zero r m h e f = absurd (omega arith)
-  spend (suc n) r m h e f =
+  spend : (n : ℕ) (m : Memory) → 1 ≤ n → m ≡ splitMemory geometry k x u (part1 x u k) (part2 x u k) (suc d)
+      → stepping (Next (halvedState k (n - 1) x)) m ≡ divideAt geometry false n k x u (part1 x u k) (part2 x u k) d
+  spend zero m h f = absurd (omega arith)
+  spend (suc n) m h f =
       let z : suc n - 1 ≡ n = omega arith in
-      let g = e ∙ ap (λ (j : ℕ). halvedState k j x) z in
-      λ i. stepping (Next (g i)) (f i)
+      λ i. stepping (Next (halvedState k (z i) x)) (f i)
 
-  pub halved-is : (r : State) (n1 n2 rg : List Float) (dp : List ℕ) → d ≡ depthAt (u .depths) k → d < 64 → 1 ≤ x .unspent
+  pub halved-is : (n1 n2 rg : List Float) (dp : List ℕ) → d ≡ depthAt (u .depths) k → d < 64 → 1 ≤ x .unspent
       → (k + 1) * (4 * x .width1) ≤ length (u .nets1) → (k + 1) * (4 * x .width2) ≤ length (u .nets2)
-      → r ≡ halvedState k (x .unspent - 1) x
       → n1 ≡ slotsAfter (not (secondHalved a b)) (x .width1) k (u .nets1) → n2 ≡ slotsAfter (secondHalved a b) (x .width2) k (u .nets2)
       → rg ≡ rangesAfter (secondHalved a b) k (u .ranges) → dp ≡ depthsAfter d k (u .depths)
-      → stepping (Next r) (memory n1 n2 rg dp (u .raw)) ≡ actOn geometry (suc k) Split x u
-  halved-is r n1 n2 rg dp ed h p h1 h2 e e1 e2 e3 e4 =
+      → stepping (Next (halvedState k (x .unspent - 1) x)) (memory n1 n2 rg dp (u .raw)) ≡ actOn geometry (suc k) Split x u
+  halved-is n1 n2 rg dp ed h p h1 h2 e1 e2 e3 e4 =
       let t : leb 64 (depthAt (u .depths) k) ≡ false = lt-leb 64 (depthAt (u .depths) k) (let y = ed in omega arith) in
       let l1 = part-length (k * (4 * x .width1)) (4 * x .width1) (u .nets1) (room k (4 * x .width1) (length (u .nets1)) h1) in
       let l2 = part-length (k * (4 * x .width2)) (4 * x .width2) (u .nets2) (room k (4 * x .width2) (length (u .nets2)) h2) in
-      rw t (spend (x .unspent) r (memory n1 n2 rg dp (u .raw)) p e (memory-split n1 n2 rg dp l1 l2 e1 e2 e3 e4)
+      rw t (spend (x .unspent) (memory n1 n2 rg dp (u .raw)) p (memory-split n1 n2 rg dp l1 l2 e1 e2 e3 e4)
       ∙ ap (λ (j : ℕ). divideAt geometry false (x .unspent) k x u (part1 x u k) (part2 x u k) j) ed)
     where
       room : (k w n : ℕ) → (k + 1) * w ≤ n → k * w + w ≤ n
       room k w n h = omega arith
-
-pub settled-is : (x r : State) (u : Memory) (k : ℕ) → r ≡ settledState k x → stepping (Next r) u ≡ actOn geometry (suc k) Settled x u
-settled-is x r u k e = ap (λ (y : State). stepping (Next y) u) e

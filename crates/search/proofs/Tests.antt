@@ -11,10 +11,10 @@ use Rattle.states.specs.declared.State.{State}
 use Rattle.states.specs.States.{Memory, Sizes, sizes, needed, enough, enoughOwn, depthAt, topDepth, searchWith, isSearch, over, topOf}
 use Rattle.states.proofs.Tests.{waits, sound, slots-fit, room-own, room-all, top-slot, top-ended, top-refused, top-node}
 use Rattle.states.specs.declared.Top.the-variants.{Node, Ended as TopEnded, NoRoom as TopNoRoom}
-use Rattle.search.specs.declared.Stepped.the-variants.{Ended, NoRoom}
+use Rattle.search.specs.declared.Stepped.the-variants.{Next, Ended, NoRoom}
 use Rattle.search.specs.declared.Own.the-variants.{Is, Ended as OwnEnded, NoRoom as OwnNoRoom}
 use Rattle.nodes.specs.Geometry.{Geometry}
-use Rattle.search.specs.Steps.{Stepping, stepping, actOn, stepDef, judgeAt, ownDef}
+use Rattle.search.specs.Steps.{stepping, actOn, stepDef, judgeAt, ownDef}
 use Rattle.nodes.specs.Writes.{Room}
 
 -- ---- the own verdict
@@ -125,5 +125,5 @@ module _ (G : Geometry) (x : State) (u : Memory) (v : Verdict) where
       let t = top-refused x b (u .depths) e in
       rw (t .0, ap (λ (a : Bool). a && isSearch x u) (sym h) ∙ t .1) refl
 
-  pub step-accepted : (r : Stepping) (k d : ℕ) → Accepted x u k d → r ≡ actOn G (suc k) v x u → r ≡ stepDef G x u v
-  step-accepted r k d A h = h ∙ ap (λ (n : ℕ). actOn G n v x u) (sym (A .top)) ∙ rw (A .runs, A .lent, accepted-is x u k d A) refl
+  pub step-accepted : (y : State) (m : Memory) (k d : ℕ) → Accepted x u k d → {z : State} → y ≡ z → stepping (Next z) m ≡ actOn G (suc k) v x u → stepping (Next y) m ≡ stepDef G x u v
+  step-accepted y m k d A e h = ap (λ (z : State). stepping (Next z) m) e ∙ h ∙ ap (λ (n : ℕ). actOn G n v x u) (sym (A .top)) ∙ rw (A .runs, A .lent, accepted-is x u k d A) refl

@@ -7,10 +7,12 @@ ghost use Rattle.lists.specs.Parts.{block};
 ghost use Rattle.boxes.specs.Nets.{boxOf};
 ghost use Rattle.states.specs.States.{memory, sizes, depthAt};
 ghost use Rattle.nodes.specs.Nets.{geometry};
+ghost use Rattle.nodes.specs.Moves.{movedState, MayMove};
 ghost use Rattle.nodes.specs.Writes.{Room};
 ghost use Rattle.search.specs.Steps.{Stepping, stepping, actOn, stepDef, ownDef};
 ghost use Rattle.search.specs.Runs.{ownStepDef, runDef};
 use boxes::Aabb;
+use nodes::Move;
 use states::State;
 use states::Top;
 use verdicts::Verdict;
@@ -52,7 +54,7 @@ pub fn own_verdict<'a>(st: State, nets1: &'a [f64], nets2: &'a [f64], depths: &[
 
 // ---- a step
 
-// A step that isn't refused: node k, the top, has this depth and these boxes.
+// What a step that isn't refused does to the memory, and with node k, the top, which has this depth and these boxes.
 fn advance(
     st: State,
     v: Verdict,
@@ -65,22 +67,28 @@ fn advance(
     ranges: &mut [f64],
     depths: &mut [u8],
     raw: &mut [f64],
-) -> State
+) -> Move
     requires { ⌜ Room st k depth (sizes (memory (now nets1) (now nets2) (now ranges) (now depths) (now raw))) ⌝ }
     requires { ⌜ (a ≡ boxOf (block (4 * st .width1) k (now nets1))) × (b ≡ boxOf (block (4 * st .width2) k (now nets2))) × (depth ≡ depthAt (now depths) k) ⌝ }
-    ensures { λ r. ⌜ _≡_ {A = Stepping} (stepping (Stepped.Next r) (memory (now (nets1 .exit)) (now (nets2 .exit)) (now (ranges .exit)) (now (depths .exit)) (now (raw .exit)))) (actOn geometry (suc k) v st (memory (now (nets1 .entry)) (now (nets2 .entry)) (now (ranges .entry)) (now (depths .entry)) (now (raw .entry)))) ⌝ }
+    ensures { λ r. ⌜ _≡_ {A = Stepping} (stepping (Stepped.Next (movedState r k st)) (memory (now (nets1 .exit)) (now (nets2 .exit)) (now (ranges .exit)) (now (depths .exit)) (now (raw .exit)))) (actOn geometry (suc k) v st (memory (now (nets1 .entry)) (now (nets2 .entry)) (now (ranges .entry)) (now (depths .entry)) (now (raw .entry)))) ⌝ }
+    ensures { λ r. ⌜ MayMove r st k ⌝ }
 {
     match v {
-        Verdict::Settled => nodes::settled(st, k),
-        Verdict::Unseparated => nodes::give_up(st, k, a, b, ranges, raw),
+        Verdict::Settled => Move::Settled,
+        Verdict::Unseparated => {
+            nodes::give_up(st, k, a, b, ranges, raw);
+            Move::GivenUp
+        }
         Verdict::Split => {
             if depth >= 64 {
-                return nodes::give_up(st, k, a, b, ranges, raw);
+                nodes::give_up(st, k, a, b, ranges, raw);
+                return Move::GivenUp;
             }
             if st.unspent == 0 {
-                return nodes::stopped(st);
+                return Move::Kept;
             }
-            nodes::halve(st, k, depth, a, b, nets1, nets2, ranges, depths)
+            nodes::halve(st, k, depth, a, b, nets1, nets2, ranges, depths);
+            Move::Halved
         }
     }
 }
@@ -112,7 +120,8 @@ pub fn step(
             let k = top as usize;
             let a = boxes::net_box(nets::net_of(nets1, nets2, 1, k, st.width1 as usize));
             let b = boxes::net_box(nets::net_of(nets1, nets2, 2, k, st.width2 as usize));
-            Stepped::Next(advance(st, v, top, depth, a, b, nets1, nets2, ranges, depths, raw))
+            let m = advance(st, v, top, depth, a, b, nets1, nets2, ranges, depths, raw);
+            Stepped::Next(nodes::moved(st, top, m))
         }
     }
 }
@@ -144,17 +153,13 @@ fn own_step_in(
         Top::NoRoom => Stepped::NoRoom,
         Top::Node(top, depth) => {
             let k = top as usize;
-            let j = clearing::judge_in(
-                nets::net_of(nets1, nets2, 1, k, st.width1 as usize),
-                nets::net_of(nets1, nets2, 2, k, st.width2 as usize),
-                st.gap,
-                p,
-                q,
-            );
-            let v = j.verdict;
-            let a = j.a;
-            let b = j.b;
-            Stepped::Next(advance(st, v, top, depth, a, b, nets1, nets2, ranges, depths, raw))
+            let np = boxes::measure(nets::net_of(nets1, nets2, 1, k, st.width1 as usize), p);
+            let nq = boxes::measure(nets::net_of(nets1, nets2, 2, k, st.width2 as usize), q);
+            let a = boxes::measured_box(&p[..np]);
+            let b = boxes::measured_box(&q[..nq]);
+            let v = clearing::judge_measured(&p[..np], a, &q[..nq], b, st.gap);
+            let m = advance(st, v, top, depth, a, b, nets1, nets2, ranges, depths, raw);
+            Stepped::Next(nodes::moved(st, top, m))
         }
     }
 }

@@ -1,4 +1,4 @@
--- `halve` halves one line's slots, copies the other's, and counts the split. Assumes nothing.
+-- `halve` halves one line's slots, and copies the other's. Assumes nothing.
 use borrow.Author.Needs.{needs}
 use mathlib.Core.Path.{ap, _∙_}
 use mathlib.Core.Bool.{Bool, not}
@@ -27,11 +27,6 @@ split-ranges-requires c κs = search needs
 deepen-requires : tie.Need-deepen-requires
 deepen-requires c κs = search needs
 
-halved-requires : tie.Need-halved-requires
-halved-requires c κs =
-    let pre = c .before .before .before .before .before .before .before .before .before .before .before .before .before .before .before .before .before .before .before .before .before .before .before .pre in
-    (pre .1 .1, pre .1 .2, pre .1 .3, pre .0 .few)
-
 same-length : tie.Need-same-length
 same-length c = search needs
 
@@ -46,14 +41,13 @@ same-length-4 c = search needs
 
 returns : tie.Need-returns
 returns c =
-    let z = c .before .before .before .before .before .before .before .before .before .before .before in
+    let z = c .before .before .before .before .before .before .before .before .before .before in
     let args = z .before .before .before .before .before .before .before .before .before .before .before .before .before .args in
     let s = z .before .before .before .before .before .before .before .before .second-halved .ensures in (
-      c .halved .ensures,
       z .before .before .before .before .before .split-net .ensures ∙ ap (λ (b : Bool). slotsAfter (not b) (args .st .width1) (args .k) (args .nets1 .now)) s,
       z .split-net2 .ensures ∙ ap (λ (b : Bool). slotsAfter b (args .st .width2) (args .k) (args .nets2 .now)) s,
-      c .before .before .before .before .before .before .before .split-ranges .ensures ∙ ap (λ (b : Bool). rangesAfter b (args .k) (args .ranges .now)) s,
-      c .before .before .before .deepen .ensures,
+      c .before .before .before .before .before .before .split-ranges .ensures ∙ ap (λ (b : Bool). rangesAfter b (args .k) (args .ranges .now)) s,
+      c .before .before .deepen .ensures,
     )
 
 pub halve-spec : {M : Type 1} → statement M
@@ -67,7 +61,6 @@ halve-spec =
     split-net-requires-2
     split-ranges-requires
     deepen-requires
-    halved-requires
     same-length
     same-length-2
     same-length-3

@@ -64,6 +64,9 @@ advance-requires c κs =
     let a = b .before .before .before .before .before in
     (accepted-room (args .st) u _ _ A (search needs) (search needs), (a .net-box .ensures ∙ ap boxOf (a .before .net-of .ensures .0), b .net-box2 .ensures ∙ ap boxOf (b .before .net-of2 .ensures .0), accepted-depth (args .st) u _ _ A))
 
+moved-requires : tie.Need-moved-requires
+moved-requires c κs = search needs
+
 same-length : tie.Need-same-length
 same-length c = search needs
 
@@ -99,11 +102,11 @@ same-length-7 c = search needs
 
 returns-3 : tie.Need-returns-3
 returns-3 c =
-    let m = c .before .before .before .before .before .before .before .before .before .before .before .before .before .before .before .before .before .before .before .before .before .before .before .before .before .before .before in
+    let m = c .before .before .before .before .before .before .before .before .before .before .before .before .before .before .before .before .before .before .before .before .before .before .before .before .before .before .before .before in
     let args = m .before .before .before .before .before .before .before .before .before .before .args in
     let u = memory (args .nets1 .now) (args .nets2 .now) (args .ranges .now) (args .depths .now) (args .raw .now) in
     let A = accepted (args .st) u _ _ _ (m .before .before .before .before .has-room .ensures) (sym (m .top .given .1) ∙ m .before .before .top-node .ensures) in
-    step-accepted geometry (args .st) u (args .v) _ _ _ A (c .before .before .before .before .before .before .before .before .before .before .advance .ensures)
+    step-accepted geometry (args .st) u (args .v) _ _ _ _ A (c .moved .ensures) (c .before .before .before .before .before .before .before .before .before .before .before .advance .ensures .0)
 
 pub step-spec : {M : Type 1} → statement M
 step-spec =
@@ -122,6 +125,7 @@ step-spec =
     net-of-requires-2
     net-box-requires-2
     advance-requires
+    moved-requires
     same-length
     returns
     same-length-2
