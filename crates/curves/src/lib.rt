@@ -47,7 +47,8 @@ fn with_breaks(
 )
     requires { ⌜ (1 ≤ p) × (p ≤ 25) × (2 * p + 2 ≤ length (now flat)) × (length (now flat) ≤ 154) × (4 * (length (now flat) - (p + 1)) ≤ length (now poles)) ⌝ }
     requires { ⌜ (2 ≤ length (now knots)) × (length (now knots) ≤ 128) × (pieceCount lo hi (now knots) * (4 * (p + 1)) ≤ length (now out)) ⌝ }
-    ensures { λ r. ⌜ now (out .exit) ≡ patch (now (out .entry)) 0 (netsOf p (now (knots .entry)) (now (flat .entry)) (now (poles .entry)) (breaksOf lo hi (now (knots .entry)))) ⌝ }
+    ensures { λ r. ⌜ now (out .exit)
+        ≡ patch (now (out .entry)) 0 (netsOf p (now (knots .entry)) (now (flat .entry)) (now (poles .entry)) (breaksOf lo hi (now (knots .entry)))) ⌝ }
 {
     let mut b = knots::break_room();
     let n = knots::breaks(knots, lo, hi, &mut b);
@@ -64,9 +65,16 @@ fn with_poles(
     hi: f64,
     out: &mut [f64],
 )
-    requires { ⌜ (1 ≤ p) × (p ≤ 25) × (p + 1 ≤ length (now coords) / 3) × (length (now coords) / 3 ≤ 128) × (length (now flat) ≡ length (now coords) / 3 + p + 1) ⌝ }
+    requires { ⌜ (1 ≤ p)
+        × (p ≤ 25)
+        × (p + 1 ≤ length (now coords) / 3)
+        × (length (now coords) / 3 ≤ 128)
+        × (length (now flat) ≡ length (now coords) / 3 + p + 1) ⌝ }
     requires { ⌜ (2 ≤ length (now knots)) × (length (now knots) ≤ 128) × (pieceCount lo hi (now knots) * (4 * (p + 1)) ≤ length (now out)) ⌝ }
-    ensures { λ r. ⌜ now (out .exit) ≡ patch (now (out .entry)) 0 (netsOf p (now (knots .entry)) (now (flat .entry)) (homogeneousPoles (now (coords .entry)) (now (weights .entry)) (length (now (coords .entry)) / 3) 0) (breaksOf lo hi (now (knots .entry)))) ⌝ }
+    ensures { λ r. ⌜ now (out .exit)
+        ≡ patch (now (out .entry)) 0
+        (netsOf p (now (knots .entry)) (now (flat .entry))
+        (homogeneousPoles (now (coords .entry)) (now (weights .entry)) (length (now (coords .entry)) / 3) 0) (breaksOf lo hi (now (knots .entry)))) ⌝ }
 {
     let n = coords.len() / 3;
     let len = 4 * n;
@@ -89,7 +97,8 @@ pub fn curve_pieces(
 )
     requires { ⌜ admitOf degree (now knots) (now mults) (now coords) (now weights) ≡ Admitted ⌝ }
     requires { ⌜ pieceCount lo hi (now knots) * (4 * (degree + 1)) ≤ length (now out) ⌝ }
-    ensures { λ r. ⌜ now (out .exit) ≡ patch (now (out .entry)) 0 (piecesOf degree (now (knots .entry)) (now (mults .entry)) (now (coords .entry)) (now (weights .entry)) lo hi) ⌝ }
+    ensures { λ r. ⌜ now (out .exit)
+        ≡ patch (now (out .entry)) 0 (piecesOf degree (now (knots .entry)) (now (mults .entry)) (now (coords .entry)) (now (weights .entry)) lo hi) ⌝ }
 {
     let mut f = knots::flat_room();
     let n = knots::flat_knots(knots, mults, &mut f);

@@ -44,7 +44,9 @@ fn repeat(out: &mut [f64], at: usize, n: usize, k: f64)
 // Each knot as often as its multiplicity says; answers how many these are.
 pub fn flat_knots(knots: &[f64], mults: &[u32], out: &mut [f64]) -> usize
     requires { ⌜ (length (now mults) ≡ length (now knots)) × (total (now mults) ≤ length (now out)) ⌝ }
-    ensures { λ r. ⌜ (r ≡ total (now (mults .entry))) × (now (out .exit) ≡ patch (now (out .entry)) 0 (flatKnots (now (knots .entry)) (now (mults .entry)))) × (take r (now (out .exit)) ≡ flatKnots (now (knots .entry)) (now (mults .entry))) ⌝ }
+    ensures { λ r. ⌜ (r ≡ total (now (mults .entry)))
+        × (now (out .exit) ≡ patch (now (out .entry)) 0 (flatKnots (now (knots .entry)) (now (mults .entry))))
+        × (take r (now (out .exit)) ≡ flatKnots (now (knots .entry)) (now (mults .entry))) ⌝ }
 {
     let mut at = 0;
     let mut i = 0;
@@ -88,7 +90,11 @@ fn kept(lo: f64, hi: f64, k: f64) -> usize
 // lo, the knots strictly between, hi; answers how many these are. A knot that isn't kept is stored over by the next.
 pub fn breaks(knots: &[f64], lo: f64, hi: f64, out: &mut [f64]) -> usize
     requires { ⌜ length (now knots) + 2 ≤ length (now out) ⌝ }
-    ensures { λ r. ⌜ (r ≡ length (breaksOf lo hi (now (knots .entry)))) × (now (out .exit) ≡ patch (now (out .entry)) 0 (breaksOf lo hi (now (knots .entry)))) × (take r (now (out .exit)) ≡ breaksOf lo hi (now (knots .entry))) × (2 ≤ r) × (r ≤ length (now (knots .entry)) + 2) ⌝ }
+    ensures { λ r. ⌜ (r ≡ length (breaksOf lo hi (now (knots .entry))))
+        × (now (out .exit) ≡ patch (now (out .entry)) 0 (breaksOf lo hi (now (knots .entry))))
+        × (take r (now (out .exit)) ≡ breaksOf lo hi (now (knots .entry)))
+        × (2 ≤ r)
+        × (r ≤ length (now (knots .entry)) + 2) ⌝ }
 {
     out[0] = lo;
     let mut n = 1;

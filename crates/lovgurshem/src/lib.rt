@@ -163,7 +163,12 @@ pub extern "C" fn lovgurshem_open(
     raw: &[f64],
     state: &mut [u64],
 ) -> u32
-    ensures { λ r. ⌜ _≡_ {A = OpenCall} (openCall r (now (state .exit)) (now (pieces1 .exit)) (now (pieces2 .exit)) (memory (now (nets1 .exit)) (now (nets2 .exit)) (now (ranges .exit)) (now (depths .exit)) (now (raw .entry)))) (callOpen (questionOf (record { lo1 = lo1; hi1 = hi1; lo2 = lo2; hi2 = hi2; gap = gap; splits = splits }) (lineOf degree1 (now (knots1 .entry)) (now (mults1 .entry)) (now (coords1 .entry)) (now (weights1 .entry))) (lineOf degree2 (now (knots2 .entry)) (now (mults2 .entry)) (now (coords2 .entry)) (now (weights2 .entry)))) (now (pieces1 .entry)) (now (pieces2 .entry)) (memory (now (nets1 .entry)) (now (nets2 .entry)) (now (ranges .entry)) (now (depths .entry)) (now (raw .entry))) (now (state .entry))) ⌝ }
+    ensures { λ r. ⌜ (let l1 = lineOf degree1 (now (knots1 .entry)) (now (mults1 .entry)) (now (coords1 .entry)) (now (weights1 .entry)) in
+        let l2 = lineOf degree2 (now (knots2 .entry)) (now (mults2 .entry)) (now (coords2 .entry)) (now (weights2 .entry)) in
+        let q = questionOf (record { lo1 = lo1; hi1 = hi1; lo2 = lo2; hi2 = hi2; gap = gap; splits = splits }) l1 l2 in
+        _≡_ {A = OpenCall}
+        (openCall r (now (state .exit)) (now (pieces1 .exit)) (now (pieces2 .exit)) (memory (now (nets1 .exit)) (now (nets2 .exit)) (now (ranges .exit)) (now (depths .exit)) (now (raw .entry))))
+        (callOpen q (now (pieces1 .entry)) (now (pieces2 .entry)) (memory (now (nets1 .entry)) (now (nets2 .entry)) (now (ranges .entry)) (now (depths .entry)) (now (raw .entry))) (now (state .entry)))) ⌝ }
     ensures { λ r. ⌜ (r ≡ 0 → isState (now (state .exit)) ≡ true) ⌝ }
 {
     if state.len() < 11 {
@@ -229,7 +234,10 @@ pub extern "C" fn lovgurshem_step(
     depths: &mut [u8],
     raw: &mut [f64],
 ) -> u32
-    ensures { λ r. ⌜ _≡_ {A = StepCall} (stepCall r (now (state .exit)) (memory (now (nets1 .exit)) (now (nets2 .exit)) (now (ranges .exit)) (now (depths .exit)) (now (raw .exit)))) (callStep verdict (now (state .entry)) gap (memory (now (nets1 .entry)) (now (nets2 .entry)) (now (ranges .entry)) (now (depths .entry)) (now (raw .entry)))) ⌝ }
+    ensures { λ r. ⌜ _≡_ {A = StepCall}
+        (stepCall r (now (state .exit)) (memory (now (nets1 .exit)) (now (nets2 .exit)) (now (ranges .exit)) (now (depths .exit)) (now (raw .exit))))
+        (callStep verdict (now (state .entry)) gap
+        (memory (now (nets1 .entry)) (now (nets2 .entry)) (now (ranges .entry)) (now (depths .entry)) (now (raw .entry)))) ⌝ }
     ensures { λ r. ⌜ isState (now (state .exit)) ≡ isState (now (state .entry)) ⌝ }
 {
     if !words::is_state(state) {
@@ -259,7 +267,10 @@ pub extern "C" fn lovgurshem_run(
     depths: &mut [u8],
     raw: &mut [f64],
 ) -> u32
-    ensures { λ r. ⌜ _≡_ {A = StepCall} (stepCall r (now (state .exit)) (memory (now (nets1 .exit)) (now (nets2 .exit)) (now (ranges .exit)) (now (depths .exit)) (now (raw .exit)))) (callRun (now (state .entry)) gap (memory (now (nets1 .entry)) (now (nets2 .entry)) (now (ranges .entry)) (now (depths .entry)) (now (raw .entry)))) ⌝ }
+    ensures { λ r. ⌜ _≡_ {A = StepCall}
+        (stepCall r (now (state .exit)) (memory (now (nets1 .exit)) (now (nets2 .exit)) (now (ranges .exit)) (now (depths .exit)) (now (raw .exit))))
+        (callRun (now (state .entry)) gap
+        (memory (now (nets1 .entry)) (now (nets2 .entry)) (now (ranges .entry)) (now (depths .entry)) (now (raw .entry)))) ⌝ }
     ensures { λ r. ⌜ isState (now (state .exit)) ≡ isState (now (state .entry)) ⌝ }
 {
     if !words::is_state(state) {
@@ -289,7 +300,12 @@ pub extern "C" fn lovgurshem_report<'a>(
     report: &mut [f64],
     counts: &mut [u64],
 ) -> u32
-    ensures { λ r. ⌜ _≡_ {A = ReportCall} (reportCall r (now (counts .exit)) (memory (now (nets1 .entry)) (now (nets2 .entry)) (now (ranges .entry)) (now (depths .entry)) (now (raw .exit))) (now (report .exit))) (callReport (now (state .entry)) gap (memory (now (nets1 .entry)) (now (nets2 .entry)) (now (ranges .entry)) (now (depths .entry)) (now (raw .entry))) (now (report .entry)) (now (counts .entry))) ⌝ }
+    ensures { λ r. ⌜ _≡_ {A = ReportCall}
+        (reportCall r (now (counts .exit))
+        (memory (now (nets1 .entry)) (now (nets2 .entry)) (now (ranges .entry)) (now (depths .entry)) (now (raw .exit))) (now (report .exit)))
+        (callReport (now (state .entry)) gap
+        (memory (now (nets1 .entry)) (now (nets2 .entry)) (now (ranges .entry)) (now (depths .entry)) (now (raw .entry))) (now (report .entry))
+        (now (counts .entry))) ⌝ }
 {
     if !words::is_state(state) {
         return 19;

@@ -166,9 +166,13 @@ pub fn halve(
     ranges: &mut [f64],
     depths: &mut [u8],
 )
-    requires { ⌜ Above st k (record { nets1 = length (now nets1); nets2 = length (now nets2); ranges = length (now ranges); depths = length (now depths); raw = 0 }) ⌝ }
+    requires { ⌜ Above st k
+        (record { nets1 = length (now nets1); nets2 = length (now nets2); ranges = length (now ranges); depths = length (now depths); raw = 0 }) ⌝ }
     requires { ⌜ depth < 64 ⌝ }
-    ensures { λ r. ⌜ (now (nets1 .exit) ≡ slotsAfter (not (secondHalved a b)) (st .width1) k (now (nets1 .entry))) × (now (nets2 .exit) ≡ slotsAfter (secondHalved a b) (st .width2) k (now (nets2 .entry))) × (now (ranges .exit) ≡ rangesAfter (secondHalved a b) k (now (ranges .entry))) × (now (depths .exit) ≡ depthsAfter depth k (now (depths .entry))) ⌝ }
+    ensures { λ r. ⌜ (now (nets1 .exit) ≡ slotsAfter (not (secondHalved a b)) (st .width1) k (now (nets1 .entry)))
+        × (now (nets2 .exit) ≡ slotsAfter (secondHalved a b) (st .width2) k (now (nets2 .entry)))
+        × (now (ranges .exit) ≡ rangesAfter (secondHalved a b) k (now (ranges .entry)))
+        × (now (depths .exit) ≡ depthsAfter depth k (now (depths .entry))) ⌝ }
 {
     let second = boxes::second_halved(a, b);
     let at = k as usize;

@@ -51,7 +51,11 @@ fn push(
 ) -> Opened
     requires { ⌜ (n1 ≤ 129) × (n2 ≤ 129) × (w1 ≤ 26) × (w2 ≤ 26) × (q .splits ≤ 256) ⌝ }
     requires { ⌜ HasPieces (pieces w1 (now pieces1) (now breaks1)) n1 × HasPieces (pieces w2 (now pieces2) (now breaks2)) n2 ⌝ }
-    ensures { λ r. ⌜ _≡_ {A = Pushing} (pushing r (memory (now (nets1 .exit)) (now (nets2 .exit)) (now (ranges .exit)) (now (depths .exit)) (now (raw .entry)))) (pushPairs (q .splits) (q .gap) (pieces w1 (now (pieces1 .entry)) (now (breaks1 .entry))) (pieces w2 (now (pieces2 .entry)) (now (breaks2 .entry))) n1 n2 (memory (now (nets1 .entry)) (now (nets2 .entry)) (now (ranges .entry)) (now (depths .entry)) (now (raw .entry)))) ⌝ }
+    ensures { λ r. ⌜ (let p1 = pieces w1 (now (pieces1 .entry)) (now (breaks1 .entry)) in
+        let p2 = pieces w2 (now (pieces2 .entry)) (now (breaks2 .entry)) in
+        _≡_ {A = Pushing}
+        (pushing r (memory (now (nets1 .exit)) (now (nets2 .exit)) (now (ranges .exit)) (now (depths .exit)) (now (raw .entry))))
+        (pushPairs (q .splits) (q .gap) p1 p2 n1 n2 (memory (now (nets1 .entry)) (now (nets2 .entry)) (now (ranges .entry)) (now (depths .entry)) (now (raw .entry))))) ⌝ }
 {
     let mut boxes1 = pairs::box_room();
     let mut boxes2 = pairs::box_room();
@@ -113,8 +117,15 @@ fn open_pairs(
     raw: &[f64],
 ) -> Opened
     requires { ⌜ (length (now knots1) ≤ 128) × (length (now knots2) ≤ 128) × (degree1 ≤ 25) × (degree2 ≤ 25) × (q .splits ≤ 256) ⌝ }
-    requires { ⌜ (pieceCount (q .lo1) (q .hi1) (now knots1) * (4 * (degree1 + 1)) ≤ length (now pieces1)) × (pieceCount (q .lo2) (q .hi2) (now knots2) * (4 * (degree2 + 1)) ≤ length (now pieces2)) ⌝ }
-    ensures { λ r. ⌜ _≡_ {A = Pushing} (pushing r (memory (now (nets1 .exit)) (now (nets2 .exit)) (now (ranges .exit)) (now (depths .exit)) (now (raw .entry)))) (pushPairs (q .splits) (q .gap) (pieces (degree1 + 1) (now (pieces1 .entry)) (breaksOf (q .lo1) (q .hi1) (now (knots1 .entry)))) (pieces (degree2 + 1) (now (pieces2 .entry)) (breaksOf (q .lo2) (q .hi2) (now (knots2 .entry)))) (pieceCount (q .lo1) (q .hi1) (now (knots1 .entry))) (pieceCount (q .lo2) (q .hi2) (now (knots2 .entry))) (memory (now (nets1 .entry)) (now (nets2 .entry)) (now (ranges .entry)) (now (depths .entry)) (now (raw .entry)))) ⌝ }
+    requires { ⌜ (pieceCount (q .lo1) (q .hi1) (now knots1) * (4 * (degree1 + 1)) ≤ length (now pieces1))
+        × (pieceCount (q .lo2) (q .hi2) (now knots2) * (4 * (degree2 + 1)) ≤ length (now pieces2)) ⌝ }
+    ensures { λ r. ⌜ (let p1 = pieces (degree1 + 1) (now (pieces1 .entry)) (breaksOf (q .lo1) (q .hi1) (now (knots1 .entry))) in
+        let p2 = pieces (degree2 + 1) (now (pieces2 .entry)) (breaksOf (q .lo2) (q .hi2) (now (knots2 .entry))) in
+        let n1 = pieceCount (q .lo1) (q .hi1) (now (knots1 .entry)) in
+        let n2 = pieceCount (q .lo2) (q .hi2) (now (knots2 .entry)) in
+        _≡_ {A = Pushing}
+        (pushing r (memory (now (nets1 .exit)) (now (nets2 .exit)) (now (ranges .exit)) (now (depths .exit)) (now (raw .entry))))
+        (pushPairs (q .splits) (q .gap) p1 p2 n1 n2 (memory (now (nets1 .entry)) (now (nets2 .entry)) (now (ranges .entry)) (now (depths .entry)) (now (raw .entry))))) ⌝ }
 {
     let mut b1 = knots::break_room();
     let mut b2 = knots::break_room();
@@ -163,8 +174,15 @@ fn open_pieces(
 ) -> Opened
     requires { ⌜ admitOf degree1 (now knots1) (now mults1) (now coords1) (now weights1) ≡ Admitted ⌝ }
     requires { ⌜ admitOf degree2 (now knots2) (now mults2) (now coords2) (now weights2) ≡ Admitted ⌝ }
-    requires { ⌜ (q .splits ≤ 256) × (pieceCount (q .lo1) (q .hi1) (now knots1) * (4 * (degree1 + 1)) ≤ length (now pieces1)) × (pieceCount (q .lo2) (q .hi2) (now knots2) * (4 * (degree2 + 1)) ≤ length (now pieces2)) ⌝ }
-    ensures { λ r. ⌜ _≡_ {A = Opening} (opening r (now (pieces1 .exit)) (now (pieces2 .exit)) (memory (now (nets1 .exit)) (now (nets2 .exit)) (now (ranges .exit)) (now (depths .exit)) (now (raw .entry)))) (openPieces (questionOf q (lineOf degree1 (now (knots1 .entry)) (now (mults1 .entry)) (now (coords1 .entry)) (now (weights1 .entry))) (lineOf degree2 (now (knots2 .entry)) (now (mults2 .entry)) (now (coords2 .entry)) (now (weights2 .entry)))) (now (pieces1 .entry)) (now (pieces2 .entry)) (memory (now (nets1 .entry)) (now (nets2 .entry)) (now (ranges .entry)) (now (depths .entry)) (now (raw .entry)))) ⌝ }
+    requires { ⌜ (q .splits ≤ 256)
+        × (pieceCount (q .lo1) (q .hi1) (now knots1) * (4 * (degree1 + 1)) ≤ length (now pieces1))
+        × (pieceCount (q .lo2) (q .hi2) (now knots2) * (4 * (degree2 + 1)) ≤ length (now pieces2)) ⌝ }
+    ensures { λ r. ⌜ (let l1 = lineOf degree1 (now (knots1 .entry)) (now (mults1 .entry)) (now (coords1 .entry)) (now (weights1 .entry)) in
+        let l2 = lineOf degree2 (now (knots2 .entry)) (now (mults2 .entry)) (now (coords2 .entry)) (now (weights2 .entry)) in
+        _≡_ {A = Opening}
+        (opening r (now (pieces1 .exit)) (now (pieces2 .exit)) (memory (now (nets1 .exit)) (now (nets2 .exit)) (now (ranges .exit)) (now (depths .exit)) (now (raw .entry))))
+        (openPieces (questionOf q l1 l2) (now (pieces1 .entry)) (now (pieces2 .entry))
+        (memory (now (nets1 .entry)) (now (nets2 .entry)) (now (ranges .entry)) (now (depths .entry)) (now (raw .entry))))) ⌝ }
 {
     curves::curve_pieces(
         degree1,
@@ -223,7 +241,12 @@ pub fn open(
     depths: &mut [u8],
     raw: &[f64],
 ) -> Opened
-    ensures { λ r. ⌜ _≡_ {A = Opening} (opening r (now (pieces1 .exit)) (now (pieces2 .exit)) (memory (now (nets1 .exit)) (now (nets2 .exit)) (now (ranges .exit)) (now (depths .exit)) (now (raw .entry)))) (openDef (questionOf q (lineOf degree1 (now (knots1 .entry)) (now (mults1 .entry)) (now (coords1 .entry)) (now (weights1 .entry))) (lineOf degree2 (now (knots2 .entry)) (now (mults2 .entry)) (now (coords2 .entry)) (now (weights2 .entry)))) (now (pieces1 .entry)) (now (pieces2 .entry)) (memory (now (nets1 .entry)) (now (nets2 .entry)) (now (ranges .entry)) (now (depths .entry)) (now (raw .entry)))) ⌝ }
+    ensures { λ r. ⌜ (let l1 = lineOf degree1 (now (knots1 .entry)) (now (mults1 .entry)) (now (coords1 .entry)) (now (weights1 .entry)) in
+        let l2 = lineOf degree2 (now (knots2 .entry)) (now (mults2 .entry)) (now (coords2 .entry)) (now (weights2 .entry)) in
+        _≡_ {A = Opening}
+        (opening r (now (pieces1 .exit)) (now (pieces2 .exit)) (memory (now (nets1 .exit)) (now (nets2 .exit)) (now (ranges .exit)) (now (depths .exit)) (now (raw .entry))))
+        (openDef (questionOf q l1 l2) (now (pieces1 .entry)) (now (pieces2 .entry))
+        (memory (now (nets1 .entry)) (now (nets2 .entry)) (now (ranges .entry)) (now (depths .entry)) (now (raw .entry))))) ⌝ }
 {
     let a1 = lines::admit(degree1, knots1, mults1, coords1, weights1);
     if lines::admission_number(a1) != 0 {

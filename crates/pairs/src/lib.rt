@@ -106,9 +106,17 @@ pub fn count(
     boxes1: &mut [f64],
     boxes2: &mut [f64],
 ) -> usize
-    requires { ⌜ (n1 ≤ 129) × (n2 ≤ 129) × (n1 * (4 * w1) ≤ length (now pieces1)) × (n2 * (4 * w2) ≤ length (now pieces2)) × (n1 * 6 ≤ length (now boxes1)) × (n2 * 6 ≤ length (now boxes2)) ⌝ }
-    ensures { λ r. ⌜ ((t1 t2 : List Float) → r ≡ length (pairsFrom gap (pieces w1 (now (pieces1 .entry)) t1) (pieces w2 (now (pieces2 .entry)) t2) n2 n1 0)) × (r ≤ n1 * n2) ⌝ }
-    ensures { λ r. ⌜ (now (boxes1 .exit) ≡ patch (now (boxes1 .entry)) 0 (boxesFrom w1 (now (pieces1 .entry)) n1 0)) × (now (boxes2 .exit) ≡ patch (now (boxes2 .entry)) 0 (boxesFrom w2 (now (pieces2 .entry)) n2 0)) ⌝ }
+    requires { ⌜ (n1 ≤ 129)
+        × (n2 ≤ 129)
+        × (n1 * (4 * w1) ≤ length (now pieces1))
+        × (n2 * (4 * w2) ≤ length (now pieces2))
+        × (n1 * 6 ≤ length (now boxes1))
+        × (n2 * 6 ≤ length (now boxes2)) ⌝ }
+    ensures { λ r. ⌜ ((t1 t2 : List Float) → r
+        ≡ length (pairsFrom gap (pieces w1 (now (pieces1 .entry)) t1) (pieces w2 (now (pieces2 .entry)) t2) n2 n1 0))
+        × (r ≤ n1 * n2) ⌝ }
+    ensures { λ r. ⌜ (now (boxes1 .exit) ≡ patch (now (boxes1 .entry)) 0 (boxesFrom w1 (now (pieces1 .entry)) n1 0))
+        × (now (boxes2 .exit) ≡ patch (now (boxes2 .entry)) 0 (boxesFrom w2 (now (pieces2 .entry)) n2 0)) ⌝ }
     ensures { λ r. ⌜ HoldsBoxes w1 (now (pieces1 .entry)) n1 (now (boxes1 .exit)) × HoldsBoxes w2 (now (pieces2 .entry)) n2 (now (boxes2 .exit)) ⌝ }
 {
     piece_boxes(pieces1, n1, w1, boxes1);
@@ -144,8 +152,12 @@ fn put_pair(
     depths: &mut [u8],
 )
     requires { ⌜ HasPieces (pieces w1 (now pieces1) (now breaks1)) (i + 1) × HasPieces (pieces w2 (now pieces2) (now breaks2)) (j + 1) ⌝ }
-    requires { ⌜ Room (pieces w1 (now pieces1) (now breaks1)) (pieces w2 (now pieces2) (now breaks2)) (k + 1) (nodes (now nets1) (now nets2) (now ranges) (now depths)) ⌝ }
-    ensures { λ r. ⌜ _≡_ {A = Nodes} (nodes (now (nets1 .exit)) (now (nets2 .exit)) (now (ranges .exit)) (now (depths .exit))) (pushed (pieces w1 (now (pieces1 .entry)) (now (breaks1 .entry))) (pieces w2 (now (pieces2 .entry)) (now (breaks2 .entry))) k (pair i j ∷ []) (nodes (now (nets1 .entry)) (now (nets2 .entry)) (now (ranges .entry)) (now (depths .entry)))) ⌝ }
+    requires { ⌜ Room (pieces w1 (now pieces1) (now breaks1)) (pieces w2 (now pieces2) (now breaks2)) (k + 1)
+        (nodes (now nets1) (now nets2) (now ranges) (now depths)) ⌝ }
+    ensures { λ r. ⌜ _≡_ {A = Nodes}
+        (nodes (now (nets1 .exit)) (now (nets2 .exit)) (now (ranges .exit)) (now (depths .exit)))
+        (pushed (pieces w1 (now (pieces1 .entry)) (now (breaks1 .entry))) (pieces w2 (now (pieces2 .entry)) (now (breaks2 .entry))) k
+        (pair i j ∷ []) (nodes (now (nets1 .entry)) (now (nets2 .entry)) (now (ranges .entry)) (now (depths .entry)))) ⌝ }
 {
     put_slot(pieces1, i, w1, nets1, k);
     put_slot(pieces2, j, w2, nets2, k);
@@ -181,9 +193,15 @@ fn push_one(
 ) -> usize
     requires { ⌜ (box1 ≡ boxOf (block (4 * w1) i (now pieces1))) × (box2 ≡ boxOf (block (4 * w2) j (now pieces2))) ⌝ }
     requires { ⌜ HasPieces (pieces w1 (now pieces1) (now breaks1)) (i + 1) × HasPieces (pieces w2 (now pieces2) (now breaks2)) (j + 1) ⌝ }
-    requires { ⌜ Room (pieces w1 (now pieces1) (now breaks1)) (pieces w2 (now pieces2) (now breaks2)) (k + length (rowFrom gap (pieces w1 (now pieces1) (now breaks1)) (pieces w2 (now pieces2) (now breaks2)) i 1 j)) (nodes (now nets1) (now nets2) (now ranges) (now depths)) ⌝ }
-    ensures { λ r. ⌜ _≡_ {A = Nodes} (nodes (now (nets1 .exit)) (now (nets2 .exit)) (now (ranges .exit)) (now (depths .exit))) (pushed (pieces w1 (now (pieces1 .entry)) (now (breaks1 .entry))) (pieces w2 (now (pieces2 .entry)) (now (breaks2 .entry))) k (rowFrom gap (pieces w1 (now (pieces1 .entry)) (now (breaks1 .entry))) (pieces w2 (now (pieces2 .entry)) (now (breaks2 .entry))) i 1 j) (nodes (now (nets1 .entry)) (now (nets2 .entry)) (now (ranges .entry)) (now (depths .entry)))) ⌝ }
-    ensures { λ r. ⌜ r ≡ k + length (rowFrom gap (pieces w1 (now (pieces1 .entry)) (now (breaks1 .entry))) (pieces w2 (now (pieces2 .entry)) (now (breaks2 .entry))) i 1 j) ⌝ }
+    requires { ⌜ (let p = pieces w1 (now pieces1) (now breaks1) in let q = pieces w2 (now pieces2) (now breaks2) in
+        Room p q (k + length (rowFrom gap p q i 1 j)) (nodes (now nets1) (now nets2) (now ranges) (now depths))) ⌝ }
+    ensures { λ r. ⌜ (let p = pieces w1 (now (pieces1 .entry)) (now (breaks1 .entry)) in
+        let q = pieces w2 (now (pieces2 .entry)) (now (breaks2 .entry)) in
+        _≡_ {A = Nodes} (nodes (now (nets1 .exit)) (now (nets2 .exit)) (now (ranges .exit)) (now (depths .exit)))
+        (pushed p q k (rowFrom gap p q i 1 j) (nodes (now (nets1 .entry)) (now (nets2 .entry)) (now (ranges .entry)) (now (depths .entry))))) ⌝ }
+    ensures { λ r. ⌜ (let p = pieces w1 (now (pieces1 .entry)) (now (breaks1 .entry)) in
+        let q = pieces w2 (now (pieces2 .entry)) (now (breaks2 .entry)) in
+        r ≡ k + length (rowFrom gap p q i 1 j)) ⌝ }
 {
     if boxes::boxes_apart(box1, box2, gap) {
         return k;
@@ -227,9 +245,15 @@ fn push_row(
 ) -> usize
     requires { ⌜ (box1 ≡ boxOf (block (4 * w1) i (now pieces1))) × HoldsBoxes w2 (now pieces2) n2 (now boxes2) ⌝ }
     requires { ⌜ HasPieces (pieces w1 (now pieces1) (now breaks1)) (i + 1) × HasPieces (pieces w2 (now pieces2) (now breaks2)) n2 ⌝ }
-    requires { ⌜ Room (pieces w1 (now pieces1) (now breaks1)) (pieces w2 (now pieces2) (now breaks2)) (k0 + length (rowFrom gap (pieces w1 (now pieces1) (now breaks1)) (pieces w2 (now pieces2) (now breaks2)) i n2 0)) (nodes (now nets1) (now nets2) (now ranges) (now depths)) ⌝ }
-    ensures { λ r. ⌜ _≡_ {A = Nodes} (nodes (now (nets1 .exit)) (now (nets2 .exit)) (now (ranges .exit)) (now (depths .exit))) (pushed (pieces w1 (now (pieces1 .entry)) (now (breaks1 .entry))) (pieces w2 (now (pieces2 .entry)) (now (breaks2 .entry))) k0 (rowFrom gap (pieces w1 (now (pieces1 .entry)) (now (breaks1 .entry))) (pieces w2 (now (pieces2 .entry)) (now (breaks2 .entry))) i n2 0) (nodes (now (nets1 .entry)) (now (nets2 .entry)) (now (ranges .entry)) (now (depths .entry)))) ⌝ }
-    ensures { λ r. ⌜ r ≡ k0 + length (rowFrom gap (pieces w1 (now (pieces1 .entry)) (now (breaks1 .entry))) (pieces w2 (now (pieces2 .entry)) (now (breaks2 .entry))) i n2 0) ⌝ }
+    requires { ⌜ (let p = pieces w1 (now pieces1) (now breaks1) in let q = pieces w2 (now pieces2) (now breaks2) in
+        Room p q (k0 + length (rowFrom gap p q i n2 0)) (nodes (now nets1) (now nets2) (now ranges) (now depths))) ⌝ }
+    ensures { λ r. ⌜ (let p = pieces w1 (now (pieces1 .entry)) (now (breaks1 .entry)) in
+        let q = pieces w2 (now (pieces2 .entry)) (now (breaks2 .entry)) in
+        _≡_ {A = Nodes} (nodes (now (nets1 .exit)) (now (nets2 .exit)) (now (ranges .exit)) (now (depths .exit)))
+        (pushed p q k0 (rowFrom gap p q i n2 0) (nodes (now (nets1 .entry)) (now (nets2 .entry)) (now (ranges .entry)) (now (depths .entry))))) ⌝ }
+    ensures { λ r. ⌜ (let p = pieces w1 (now (pieces1 .entry)) (now (breaks1 .entry)) in
+        let q = pieces w2 (now (pieces2 .entry)) (now (breaks2 .entry)) in
+        r ≡ k0 + length (rowFrom gap p q i n2 0)) ⌝ }
 {
     let mut k = k0;
     let mut j = 0usize;
@@ -278,11 +302,15 @@ pub fn push_pairs(
 )
     requires { ⌜ HoldsBoxes w1 (now pieces1) n1 (now boxes1) × HoldsBoxes w2 (now pieces2) n2 (now boxes2) ⌝ }
     requires { ⌜ HasPieces (pieces w1 (now pieces1) (now breaks1)) n1 × HasPieces (pieces w2 (now pieces2) (now breaks2)) n2 ⌝ }
-    requires { ⌜ Room (pieces w1 (now pieces1) (now breaks1)) (pieces w2 (now pieces2) (now breaks2)) (length (pairsFrom gap (pieces w1 (now pieces1) (now breaks1)) (pieces w2 (now pieces2) (now breaks2)) n2 n1 0)) (nodes (now nets1) (now nets2) (now ranges) (now depths)) ⌝ }
-    ensures { λ r. ⌜ now (nets1 .exit) ≡ patch (now (nets1 .entry)) 0 (nets1Of (pieces w1 (now (pieces1 .entry)) (now (breaks1 .entry))) (pairsFrom gap (pieces w1 (now (pieces1 .entry)) (now (breaks1 .entry))) (pieces w2 (now (pieces2 .entry)) (now (breaks2 .entry))) n2 n1 0)) ⌝ }
-    ensures { λ r. ⌜ now (nets2 .exit) ≡ patch (now (nets2 .entry)) 0 (nets2Of (pieces w2 (now (pieces2 .entry)) (now (breaks2 .entry))) (pairsFrom gap (pieces w1 (now (pieces1 .entry)) (now (breaks1 .entry))) (pieces w2 (now (pieces2 .entry)) (now (breaks2 .entry))) n2 n1 0)) ⌝ }
-    ensures { λ r. ⌜ now (ranges .exit) ≡ patch (now (ranges .entry)) 0 (rangesOf (pieces w1 (now (pieces1 .entry)) (now (breaks1 .entry))) (pieces w2 (now (pieces2 .entry)) (now (breaks2 .entry))) (pairsFrom gap (pieces w1 (now (pieces1 .entry)) (now (breaks1 .entry))) (pieces w2 (now (pieces2 .entry)) (now (breaks2 .entry))) n2 n1 0)) ⌝ }
-    ensures { λ r. ⌜ now (depths .exit) ≡ patch (now (depths .entry)) 0 (depthsOf (pairsFrom gap (pieces w1 (now (pieces1 .entry)) (now (breaks1 .entry))) (pieces w2 (now (pieces2 .entry)) (now (breaks2 .entry))) n2 n1 0)) ⌝ }
+    requires { ⌜ (let p = pieces w1 (now pieces1) (now breaks1) in let q = pieces w2 (now pieces2) (now breaks2) in
+        Room p q (length (pairsFrom gap p q n2 n1 0)) (nodes (now nets1) (now nets2) (now ranges) (now depths))) ⌝ }
+    ensures { λ r. ⌜ (let p = pieces w1 (now (pieces1 .entry)) (now (breaks1 .entry)) in
+        let q = pieces w2 (now (pieces2 .entry)) (now (breaks2 .entry)) in
+        let ks = pairsFrom gap p q n2 n1 0 in
+        (now (nets1 .exit) ≡ patch (now (nets1 .entry)) 0 (nets1Of p ks))
+        × (now (nets2 .exit) ≡ patch (now (nets2 .entry)) 0 (nets2Of q ks))
+        × (now (ranges .exit) ≡ patch (now (ranges .entry)) 0 (rangesOf p q ks))
+        × (now (depths .exit) ≡ patch (now (depths .entry)) 0 (depthsOf ks))) ⌝ }
 {
     let mut k = 0usize;
     let mut i = 0usize;

@@ -150,7 +150,8 @@ pub fn ask(
 ) -> Asked
     requires { ⌜ admitOf degree1 (now knots1) (now mults1) (now coords1) (now weights1) ≡ Admitted ⌝ }
     requires { ⌜ admitOf degree2 (now knots2) (now mults2) (now coords2) (now weights2) ≡ Admitted ⌝ }
-    ensures { λ r. ⌜ r ≡ askOf degree1 (now (knots1 .entry)) (now (mults1 .entry)) lo1 hi1 degree2 (now (knots2 .entry)) (now (mults2 .entry)) lo2 hi2 gap splits ⌝ }
+    ensures { λ r. ⌜ r
+        ≡ askOf degree1 (now (knots1 .entry)) (now (mults1 .entry)) lo1 hi1 degree2 (now (knots2 .entry)) (now (mults2 .entry)) lo2 hi2 gap splits ⌝ }
 {
     let bounds1 = knots::bounds(degree1, knots1, mults1);
     let bounds2 = knots::bounds(degree2, knots2, mults2);

@@ -130,8 +130,11 @@ fn sweep_one(out: &mut [f64], s: Swept, r: Region) -> Swept
 // One pass over the first n regions: r takes in those that it touches, as grown so far; the others stay in order.
 fn sweep(out: &mut [f64], n: usize, r: Region) -> Swept
     requires { ⌜ n * 10 ≤ length (now out) ⌝ }
-    ensures { λ w. ⌜ (w .grown ≡ grown merging r (regionsIn n (now (out .entry)))) × (w .kept ≡ length (remaining merging r (regionsIn n (now (out .entry))))) × (w .kept ≤ n) ⌝ }
-    ensures { λ w. ⌜ (regionsIn (w .kept) (now (out .exit)) ≡ remaining merging r (regionsIn n (now (out .entry)))) × (drop (n * 10) (now (out .exit)) ≡ drop (n * 10) (now (out .entry))) ⌝ }
+    ensures { λ w. ⌜ (w .grown ≡ grown merging r (regionsIn n (now (out .entry))))
+        × (w .kept ≡ length (remaining merging r (regionsIn n (now (out .entry)))))
+        × (w .kept ≤ n) ⌝ }
+    ensures { λ w. ⌜ (regionsIn (w .kept) (now (out .exit)) ≡ remaining merging r (regionsIn n (now (out .entry))))
+        × (drop (n * 10) (now (out .exit)) ≡ drop (n * 10) (now (out .entry))) ⌝ }
 {
     let mut s = Swept { grown: r, kept: 0 };
     let mut i = 0usize;
@@ -146,7 +149,8 @@ fn sweep(out: &mut [f64], n: usize, r: Region) -> Swept
 fn absorb(out: &mut [f64], n: usize, r: Region) -> usize
     requires { ⌜ (n + 1) * 10 ≤ length (now out) ⌝ }
     ensures { λ m. ⌜ (m ≡ length (takeIn merging r (regionsIn n (now (out .entry))))) × (m ≤ n + 1) ⌝ }
-    ensures { λ m. ⌜ (regionsIn m (now (out .exit)) ≡ takeIn merging r (regionsIn n (now (out .entry)))) × (drop ((n + 1) * 10) (now (out .exit)) ≡ drop ((n + 1) * 10) (now (out .entry))) ⌝ }
+    ensures { λ m. ⌜ (regionsIn m (now (out .exit)) ≡ takeIn merging r (regionsIn n (now (out .entry))))
+        × (drop ((n + 1) * 10) (now (out .exit)) ≡ drop ((n + 1) * 10) (now (out .entry))) ⌝ }
 {
     let mut had = n;
     let mut s = sweep(out, n, r);
@@ -161,7 +165,9 @@ fn absorb(out: &mut [f64], n: usize, r: Region) -> usize
 // The first n regions of raw, taken from the end, each with those that it touches merged. Answers how many there are.
 fn gather(raw: &[f64], n: usize, out: &mut [f64]) -> usize
     requires { ⌜ (n * 10 ≤ length (now raw)) × (n * 10 ≤ length (now out)) ⌝ }
-    ensures { λ m. ⌜ (m ≤ n) × (regionsIn m (now (out .exit)) ≡ gather merging (reverse (regionsIn n (now (raw .entry)))) []) × (drop (n * 10) (now (out .exit)) ≡ drop (n * 10) (now (out .entry))) ⌝ }
+    ensures { λ m. ⌜ (m ≤ n)
+        × (regionsIn m (now (out .exit)) ≡ gather merging (reverse (regionsIn n (now (raw .entry)))) [])
+        × (drop (n * 10) (now (out .exit)) ≡ drop (n * 10) (now (out .entry))) ⌝ }
 {
     let mut m = 0usize;
     let mut i = n;
@@ -175,7 +181,9 @@ fn gather(raw: &[f64], n: usize, out: &mut [f64]) -> usize
 // Region k moved up behind each of the regions k + 1 .. n - 1 that starts before it.
 fn insert(out: &mut [f64], k: usize, n: usize)
     requires { ⌜ (k < n) × (n * 10 ≤ length (now out)) ⌝ }
-    ensures { λ _. ⌜ regionsIn n (now (out .exit)) ≡ take k (regionsIn n (now (out .entry))) ++ insert merging (regionAt (block 10 k (now (out .entry)))) (drop (k + 1) (regionsIn n (now (out .entry)))) ⌝ }
+    ensures { λ _. ⌜ regionsIn n (now (out .exit))
+        ≡ take k (regionsIn n (now (out .entry))) ++ insert merging (regionAt (block 10 k (now (out .entry))))
+        (drop (k + 1) (regionsIn n (now (out .entry)))) ⌝ }
     ensures { λ _. ⌜ drop (n * 10) (now (out .exit)) ≡ drop (n * 10) (now (out .entry)) ⌝ }
 {
     let r = load(out, k);
@@ -190,7 +198,8 @@ fn insert(out: &mut [f64], k: usize, n: usize)
 // The first n regions ordered by first start, equal starts as they came.
 fn sort(out: &mut [f64], n: usize)
     requires { ⌜ n * 10 ≤ length (now out) ⌝ }
-    ensures { λ _. ⌜ (regionsIn n (now (out .exit)) ≡ ordered merging (regionsIn n (now (out .entry)))) × (drop (n * 10) (now (out .exit)) ≡ drop (n * 10) (now (out .entry))) ⌝ }
+    ensures { λ _. ⌜ (regionsIn n (now (out .exit)) ≡ ordered merging (regionsIn n (now (out .entry))))
+        × (drop (n * 10) (now (out .exit)) ≡ drop (n * 10) (now (out .entry))) ⌝ }
 {
     let mut k = n;
     while k > 0 {

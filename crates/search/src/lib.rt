@@ -70,7 +70,11 @@ fn advance(
 ) -> Move
     requires { ⌜ Room st k depth (sizes (memory (now nets1) (now nets2) (now ranges) (now depths) (now raw))) ⌝ }
     requires { ⌜ (a ≡ boxOf (block (4 * st .width1) k (now nets1))) × (b ≡ boxOf (block (4 * st .width2) k (now nets2))) × (depth ≡ depthAt (now depths) k) ⌝ }
-    ensures { λ r. ⌜ _≡_ {A = Stepping} (stepping (Stepped.Next (movedState r k st)) (memory (now (nets1 .exit)) (now (nets2 .exit)) (now (ranges .exit)) (now (depths .exit)) (now (raw .exit)))) (actOn geometry (suc k) v st (memory (now (nets1 .entry)) (now (nets2 .entry)) (now (ranges .entry)) (now (depths .entry)) (now (raw .entry)))) ⌝ }
+    ensures { λ r. ⌜ _≡_ {A = Stepping}
+        (stepping (Stepped.Next (movedState r k st))
+        (memory (now (nets1 .exit)) (now (nets2 .exit)) (now (ranges .exit)) (now (depths .exit)) (now (raw .exit))))
+        (actOn geometry (suc k) v st
+        (memory (now (nets1 .entry)) (now (nets2 .entry)) (now (ranges .entry)) (now (depths .entry)) (now (raw .entry)))) ⌝ }
     ensures { λ r. ⌜ MayMove r st k ⌝ }
 {
     match v {
@@ -103,7 +107,9 @@ pub fn step(
     depths: &mut [u8],
     raw: &mut [f64],
 ) -> Stepped
-    ensures { λ r. ⌜ _≡_ {A = Stepping} (stepping r (memory (now (nets1 .exit)) (now (nets2 .exit)) (now (ranges .exit)) (now (depths .exit)) (now (raw .exit)))) (stepDef geometry st (memory (now (nets1 .entry)) (now (nets2 .entry)) (now (ranges .entry)) (now (depths .entry)) (now (raw .entry))) v) ⌝ }
+    ensures { λ r. ⌜ _≡_ {A = Stepping}
+        (stepping r (memory (now (nets1 .exit)) (now (nets2 .exit)) (now (ranges .exit)) (now (depths .exit)) (now (raw .exit))))
+        (stepDef geometry st (memory (now (nets1 .entry)) (now (nets2 .entry)) (now (ranges .entry)) (now (depths .entry)) (now (raw .entry))) v) ⌝ }
 {
     let room = states::has_room(
         st,
@@ -138,7 +144,9 @@ fn own_step_in(
     q: &mut [f64],
 ) -> Stepped
     requires { ⌜ (length (now p) ≡ 78) × (length (now q) ≡ 78) ⌝ }
-    ensures { λ r. ⌜ _≡_ {A = Stepping} (stepping r (memory (now (nets1 .exit)) (now (nets2 .exit)) (now (ranges .exit)) (now (depths .exit)) (now (raw .exit)))) (ownStepDef geometry st (memory (now (nets1 .entry)) (now (nets2 .entry)) (now (ranges .entry)) (now (depths .entry)) (now (raw .entry)))) ⌝ }
+    ensures { λ r. ⌜ _≡_ {A = Stepping}
+        (stepping r (memory (now (nets1 .exit)) (now (nets2 .exit)) (now (ranges .exit)) (now (depths .exit)) (now (raw .exit))))
+        (ownStepDef geometry st (memory (now (nets1 .entry)) (now (nets2 .entry)) (now (ranges .entry)) (now (depths .entry)) (now (raw .entry)))) ⌝ }
 {
     let room = states::has_room(
         st,
@@ -173,7 +181,9 @@ pub fn own_step(
     depths: &mut [u8],
     raw: &mut [f64],
 ) -> Stepped
-    ensures { λ r. ⌜ _≡_ {A = Stepping} (stepping r (memory (now (nets1 .exit)) (now (nets2 .exit)) (now (ranges .exit)) (now (depths .exit)) (now (raw .exit)))) (ownStepDef geometry st (memory (now (nets1 .entry)) (now (nets2 .entry)) (now (ranges .entry)) (now (depths .entry)) (now (raw .entry)))) ⌝ }
+    ensures { λ r. ⌜ _≡_ {A = Stepping}
+        (stepping r (memory (now (nets1 .exit)) (now (nets2 .exit)) (now (ranges .exit)) (now (depths .exit)) (now (raw .exit))))
+        (ownStepDef geometry st (memory (now (nets1 .entry)) (now (nets2 .entry)) (now (ranges .entry)) (now (depths .entry)) (now (raw .entry)))) ⌝ }
 {
     let mut p = boxes::scratch();
     let mut q = boxes::scratch();
@@ -191,7 +201,9 @@ pub fn run(
     depths: &mut [u8],
     raw: &mut [f64],
 ) -> Stepped
-    ensures { λ r. ⌜ _≡_ {A = Stepping} (stepping r (memory (now (nets1 .exit)) (now (nets2 .exit)) (now (ranges .exit)) (now (depths .exit)) (now (raw .exit)))) (runDef geometry st (memory (now (nets1 .entry)) (now (nets2 .entry)) (now (ranges .entry)) (now (depths .entry)) (now (raw .entry)))) ⌝ }
+    ensures { λ r. ⌜ _≡_ {A = Stepping}
+        (stepping r (memory (now (nets1 .exit)) (now (nets2 .exit)) (now (ranges .exit)) (now (depths .exit)) (now (raw .exit))))
+        (runDef geometry st (memory (now (nets1 .entry)) (now (nets2 .entry)) (now (ranges .entry)) (now (depths .entry)) (now (raw .entry)))) ⌝ }
 {
     let mut p = boxes::scratch();
     let mut q = boxes::scratch();

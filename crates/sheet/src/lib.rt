@@ -6,6 +6,7 @@ ghost use Rattle.lists.specs.Parts.{patch};
 ghost use Rattle.opening.specs.Opens.{lineOf, questionOf};
 ghost use Rattle.states.specs.States.{memory};
 ghost use Rattle.walks.specs.Places.{lineIn as walkedLine, LineInside};
+ghost use Rattle.texts.specs.Texts.{Wrote};
 ghost use Rattle.sheet.specs.Answers.{zeros, zeroDepths, reportText, searchText, linesText, lineIn, askingAt, answerOf, answerLength, answerIn};
 use opening::Opened;
 use opening::Question;
@@ -29,7 +30,8 @@ fn answer_report<'a>(
     out: &mut [u8],
 ) -> usize
     requires { ⌜ (145169 ≤ length (now out)) × (length (now list) ≤ 8190) ⌝ }
-    ensures { λ r. ⌜ (r ≡ 0 + length (reportText st (memory (now (nets1 .entry)) (now (nets2 .entry)) (now (ranges .entry)) (now (depths .entry)) (now (raw .entry))) (now (list .entry)))) × (now (out .exit) ≡ patch (now (out .entry)) 0 (reportText st (memory (now (nets1 .entry)) (now (nets2 .entry)) (now (ranges .entry)) (now (depths .entry)) (now (raw .entry))) (now (list .entry)))) ⌝ }
+    ensures { λ r. ⌜ (let u = memory (now (nets1 .entry)) (now (nets2 .entry)) (now (ranges .entry)) (now (depths .entry)) (now (raw .entry)) in
+        Wrote (reportText st u (now (list .entry))) 0 (now (out .entry)) r (now (out .exit))) ⌝ }
 {
     match report::report(st, nets1, nets2, ranges, depths, raw, list) {
         Reported::Told(w, c, n) => {
@@ -53,7 +55,8 @@ fn answer_search(
     out: &mut [u8],
 ) -> usize
     requires { ⌜ (145169 ≤ length (now out)) × (length (now list) ≤ 8190) ⌝ }
-    ensures { λ r. ⌜ (r ≡ 0 + length (searchText st (memory (now (nets1 .entry)) (now (nets2 .entry)) (now (ranges .entry)) (now (depths .entry)) (now (raw .entry))) (now (list .entry)))) × (now (out .exit) ≡ patch (now (out .entry)) 0 (searchText st (memory (now (nets1 .entry)) (now (nets2 .entry)) (now (ranges .entry)) (now (depths .entry)) (now (raw .entry))) (now (list .entry)))) ⌝ }
+    ensures { λ r. ⌜ (let u = memory (now (nets1 .entry)) (now (nets2 .entry)) (now (ranges .entry)) (now (depths .entry)) (now (raw .entry)) in
+        Wrote (searchText st u (now (list .entry))) 0 (now (out .entry)) r (now (out .exit))) ⌝ }
 {
     match search::run(st, nets1, nets2, ranges, depths, raw) {
         Stepped::Next(end) => answer_report(end, nets1, nets2, ranges, depths, raw, list, out),
@@ -108,7 +111,9 @@ fn answer_lines(
     out: &mut [u8],
 ) -> usize
     requires { ⌜ 145169 ≤ length (now out) ⌝ }
-    ensures { λ r. ⌜ (r ≡ 0 + length (linesText (questionOf q (lineOf degree1 (now (knots1 .entry)) (now (mults1 .entry)) (now (coords1 .entry)) (now (weights1 .entry))) (lineOf degree2 (now (knots2 .entry)) (now (mults2 .entry)) (now (coords2 .entry)) (now (weights2 .entry)))))) × (now (out .exit) ≡ patch (now (out .entry)) 0 (linesText (questionOf q (lineOf degree1 (now (knots1 .entry)) (now (mults1 .entry)) (now (coords1 .entry)) (now (weights1 .entry))) (lineOf degree2 (now (knots2 .entry)) (now (mults2 .entry)) (now (coords2 .entry)) (now (weights2 .entry)))))) ⌝ }
+    ensures { λ r. ⌜ (let l1 = lineOf degree1 (now (knots1 .entry)) (now (mults1 .entry)) (now (coords1 .entry)) (now (weights1 .entry)) in
+        let l2 = lineOf degree2 (now (knots2 .entry)) (now (mults2 .entry)) (now (coords2 .entry)) (now (weights2 .entry)) in
+        Wrote (linesText (questionOf q l1 l2)) 0 (now (out .entry)) r (now (out .exit))) ⌝ }
 {
     let mut pieces1 = piece_room();
     let mut pieces2 = piece_room();
@@ -200,7 +205,9 @@ fn answer_second(
     out: &mut [u8],
 ) -> usize
     requires { ⌜ (145169 ≤ length (now out)) × (length (now s) ≤ 16384) × LineInside (length (now s)) l ⌝ }
-    ensures { λ r. ⌜ (r ≡ 0 + length (linesText (questionOf q (lineOf degree1 (now (knots1 .entry)) (now (mults1 .entry)) (now (coords1 .entry)) (now (weights1 .entry))) (lineIn (walkedLine (now (s .entry)) l))))) × (now (out .exit) ≡ patch (now (out .entry)) 0 (linesText (questionOf q (lineOf degree1 (now (knots1 .entry)) (now (mults1 .entry)) (now (coords1 .entry)) (now (weights1 .entry))) (lineIn (walkedLine (now (s .entry)) l))))) ⌝ }
+    ensures { λ r. ⌜ (let l1 = lineOf degree1 (now (knots1 .entry)) (now (mults1 .entry)) (now (coords1 .entry)) (now (weights1 .entry)) in
+        let l2 = lineIn (walkedLine (now (s .entry)) l) in
+        Wrote (linesText (questionOf q l1 l2)) 0 (now (out .entry)) r (now (out .exit))) ⌝ }
 {
     let mut knots = float_room();
     let mut mults = word_room();
@@ -230,7 +237,9 @@ fn answer_second(
 // The first line read, then the second.
 fn answer_first(s: &[u8], q: Question, l: Line, second: Line, out: &mut [u8]) -> usize
     requires { ⌜ (145169 ≤ length (now out)) × (length (now s) ≤ 16384) × LineInside (length (now s)) l × LineInside (length (now s)) second ⌝ }
-    ensures { λ r. ⌜ (r ≡ 0 + length (linesText (questionOf q (lineIn (walkedLine (now (s .entry)) l)) (lineIn (walkedLine (now (s .entry)) second))))) × (now (out .exit) ≡ patch (now (out .entry)) 0 (linesText (questionOf q (lineIn (walkedLine (now (s .entry)) l)) (lineIn (walkedLine (now (s .entry)) second))))) ⌝ }
+    ensures { λ r. ⌜ (let l1 = lineIn (walkedLine (now (s .entry)) l) in
+        let l2 = lineIn (walkedLine (now (s .entry)) second) in
+        Wrote (linesText (questionOf q l1 l2)) 0 (now (out .entry)) r (now (out .exit))) ⌝ }
 {
     let mut knots = float_room();
     let mut mults = word_room();

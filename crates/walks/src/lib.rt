@@ -104,8 +104,14 @@ pub fn read_line(
     weights: &mut [f64],
 )
     requires { ⌜ LineInside (length (now s)) l × (length (now s) ≤ 16384) ⌝ }
-    requires { ⌜ (l .knots .count ≤ length (now knots)) × (l .mults .count ≤ length (now mults)) × (3 * l .poles .count ≤ length (now coords)) × (l .weights .count ≤ length (now weights)) ⌝ }
-    ensures { λ r. ⌜ (now (knots .exit) ≡ patch (now (knots .entry)) 0 (floatsFrom (now (s .entry)) (l .knots .at) (l .knots .count))) × (now (mults .exit) ≡ patch (now (mults .entry)) 0 (wordsFrom (now (s .entry)) (l .mults .at) (l .mults .count))) × (now (coords .exit) ≡ patch (now (coords .entry)) 0 (floatsFrom (now (s .entry)) (l .poles .at) (3 * l .poles .count))) × (now (weights .exit) ≡ patch (now (weights .entry)) 0 (floatsFrom (now (s .entry)) (l .weights .at) (l .weights .count))) ⌝ }
+    requires { ⌜ (l .knots .count ≤ length (now knots))
+        × (l .mults .count ≤ length (now mults))
+        × (3 * l .poles .count ≤ length (now coords))
+        × (l .weights .count ≤ length (now weights)) ⌝ }
+    ensures { λ r. ⌜ (now (knots .exit) ≡ patch (now (knots .entry)) 0 (floatsFrom (now (s .entry)) (l .knots .at) (l .knots .count)))
+        × (now (mults .exit) ≡ patch (now (mults .entry)) 0 (wordsFrom (now (s .entry)) (l .mults .at) (l .mults .count)))
+        × (now (coords .exit) ≡ patch (now (coords .entry)) 0 (floatsFrom (now (s .entry)) (l .poles .at) (3 * l .poles .count)))
+        × (now (weights .exit) ≡ patch (now (weights .entry)) 0 (floatsFrom (now (s .entry)) (l .weights .at) (l .weights .count))) ⌝ }
 {
     read_floats(s, l.knots.at, l.knots.count, knots);
     read_words(s, l.mults.at, l.mults.count, mults);

@@ -68,7 +68,7 @@ returns-2 c =
     let b = c .before .before .before .before .before .before .before .before .before .before .before .before .before .before .before in
     let args = b .before .before .before .before .before .before .before .before .before .before .before .before .before .before .before .before .before .before .before .args in
     let push-pairs = c .before .before .before .before .before .before .before .before .push-pairs in
-    push-done (args .q .splits) (args .q .gap) (pieces (args .w1) (args .pieces1 .now) (args .breaks1 .now)) (pieces (args .w2) (args .pieces2 .now) (args .breaks2 .now)) (args .n1) (args .n2) (memory (args .nets1 .now) (args .nets2 .now) (args .ranges .now) (args .depths .now) (args .raw .now)) _ _ (b .before .before .before .before .before .count .ensures .0 .0 (args .breaks1 .now) (args .breaks2 .now)) (b .before .before .fresh .ensures) (sym (b .before .has-room .ensures) ∙ not-false _ (b .if1 .left)) _ _ _ _ (push-pairs .ensures .0) (push-pairs .ensures .1 .0) (push-pairs .ensures .1 .1 .0) (push-pairs .ensures .1 .1 .1)
+    push-done (args .q .splits) (args .q .gap) (pieces (args .w1) (args .pieces1 .now) (args .breaks1 .now)) (pieces (args .w2) (args .pieces2 .now) (args .breaks2 .now)) (args .n1) (args .n2) (memory (args .nets1 .now) (args .nets2 .now) (args .ranges .now) (args .depths .now) (args .raw .now)) _ _ (b .before .before .before .before .before .count .ensures .0 .0 (args .breaks1 .now) (args .breaks2 .now)) (b .before .before .fresh .ensures) (sym (b .before .has-room .ensures) ∙ not-false _ (b .if1 .left)) _ _ _ _ (push-pairs .ensures .0) (push-pairs .ensures .1) (push-pairs .ensures .2) (push-pairs .ensures .3)
 
 pub push-spec : {M : Type 1} → statement M
 push-spec =

@@ -65,7 +65,8 @@ returns : tie.Need-returns Inv-loop μ-loop
 returns c =
     let args = c .before .before .before .before .before .before .before .before .before .before .before .before .args in
     let pre = c .before .before .before .before .before .before .before .before .before .before .before .before .pre in
-    ((all-pushed (args .gap) (pieces (args .w1) (args .pieces1 .now) (args .breaks1 .now)) (pieces (args .w2) (args .pieces2 .now) (args .breaks2 .now)) (args .n1) (args .n2) (pre .1 .0 .0) (pre .1 .0 .1) (c .before .loop .i) (nodes (args .nets1 .now) (args .nets2 .now) (args .ranges .now) (args .depths .now)) (nodes (c .before .loop .nets1) (c .before .loop .nets2) (c .before .loop .ranges) (c .before .loop .depths)) (c .loop-test .left) (c .before .loop .inv .2) (c .before .loop .inv .0)) .nets1, ((all-pushed (args .gap) (pieces (args .w1) (args .pieces1 .now) (args .breaks1 .now)) (pieces (args .w2) (args .pieces2 .now) (args .breaks2 .now)) (args .n1) (args .n2) (pre .1 .0 .0) (pre .1 .0 .1) (c .before .loop .i) (nodes (args .nets1 .now) (args .nets2 .now) (args .ranges .now) (args .depths .now)) (nodes (c .before .loop .nets1) (c .before .loop .nets2) (c .before .loop .ranges) (c .before .loop .depths)) (c .loop-test .left) (c .before .loop .inv .2) (c .before .loop .inv .0)) .nets2, ((all-pushed (args .gap) (pieces (args .w1) (args .pieces1 .now) (args .breaks1 .now)) (pieces (args .w2) (args .pieces2 .now) (args .breaks2 .now)) (args .n1) (args .n2) (pre .1 .0 .0) (pre .1 .0 .1) (c .before .loop .i) (nodes (args .nets1 .now) (args .nets2 .now) (args .ranges .now) (args .depths .now)) (nodes (c .before .loop .nets1) (c .before .loop .nets2) (c .before .loop .ranges) (c .before .loop .depths)) (c .loop-test .left) (c .before .loop .inv .2) (c .before .loop .inv .0)) .ranges, (all-pushed (args .gap) (pieces (args .w1) (args .pieces1 .now) (args .breaks1 .now)) (pieces (args .w2) (args .pieces2 .now) (args .breaks2 .now)) (args .n1) (args .n2) (pre .1 .0 .0) (pre .1 .0 .1) (c .before .loop .i) (nodes (args .nets1 .now) (args .nets2 .now) (args .ranges .now) (args .depths .now)) (nodes (c .before .loop .nets1) (c .before .loop .nets2) (c .before .loop .ranges) (c .before .loop .depths)) (c .loop-test .left) (c .before .loop .inv .2) (c .before .loop .inv .0)) .depths)))
+    let all = all-pushed (args .gap) (pieces (args .w1) (args .pieces1 .now) (args .breaks1 .now)) (pieces (args .w2) (args .pieces2 .now) (args .breaks2 .now)) (args .n1) (args .n2) (pre .1 .0 .0) (pre .1 .0 .1) (c .before .loop .i) (nodes (args .nets1 .now) (args .nets2 .now) (args .ranges .now) (args .depths .now)) (nodes (c .before .loop .nets1) (c .before .loop .nets2) (c .before .loop .ranges) (c .before .loop .depths)) (c .loop-test .left) (c .before .loop .inv .2) (c .before .loop .inv .0) in
+    (all .nets1, all .nets2, all .ranges, all .depths)
 
 pub push-pairs-spec : {M : Type 1} → statement M
 push-pairs-spec =
