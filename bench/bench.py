@@ -10,7 +10,10 @@ N times in one process. ARCHIVE is the library as `rt staticlib lovgurshem` writ
 Each side answers the sheet, from its bytes to the printed text, as many times in one process as the Rust needs for
 about a third of a second, so that starting a process is below one percent. Both sides run in turn, N times each
 (9); the figure is the least user time of a side, divided by the count. Before that the answers are compared byte
-for byte.
+for byte. In the same turns the library's calls for opening, loop and report run on the sheet's lines in memory that is
+made once (calls.c); they read no sheet and print nothing, so no ratio is taken of them.
+
+Then the memory of both sides, and the time of a report by its raw list (merge.c).
 """
 import os
 import subprocess
@@ -44,7 +47,7 @@ class Side:
 
 def compiled(folder, name, more=()):
     out = os.path.join(folder, name)
-    subprocess.run(['cc', '-O2', '-std=gnu99', '-o', out, os.path.join(HERE, name + '.c')] + list(more), check=True)
+    subprocess.run(['cc', '-O2', '-std=gnu99', '-I', os.path.join(HERE, '../include'), '-o', out, os.path.join(HERE, name + '.c')] + list(more), check=True)
     return out
 
 
@@ -61,7 +64,7 @@ def least_stack(side, data):
     return 4 * high
 
 
-def timed(name, data, rust, here, runs):
+def timed(name, data, rust, here, calls, runs):
     _, text = here.answer(data)
     if text is None or text != rust.answer(data)[1]:
         sys.exit('%s: the answers differ' % name)
@@ -69,13 +72,13 @@ def timed(name, data, rust, here, runs):
     while rust.times(data, tried) < SPAN / 8:
         tried *= 2
     count = max(1, int(SPAN / (rust.times(data, tried) / tried)))
-    best = [10 ** 12, 10 ** 12]
+    best = [10 ** 12] * 3
     for _ in range(runs):
-        best = [min(b, side.times(data, count)) for b, side in zip(best, (rust, here))]
+        best = [min(b, side.times(data, count)) for b, side in zip(best, (rust, here, calls))]
     words = dict(w.split('=') for w in text.decode('ascii').split('\n')[0].split(' ')[1:])
     raw = int(words['given']) + int(words['left'])
-    return '| %s | %s | %s | %d | %s | %.1f | %.1f | %.2f |' % (
-        name, words['pairs'], words['visits'], raw, words['regions'], best[0] / count, best[1] / count, best[1] / best[0])
+    return '| %s | %s | %s | %d | %s | %.1f | %.1f | %.2f | %.1f |' % (
+        name, words['pairs'], words['visits'], raw, words['regions'], best[0] / count, best[1] / count, best[1] / best[0], best[2] / count)
 
 
 def main(args):
@@ -90,15 +93,18 @@ def main(args):
         loop = compiled(folder, 'loop', [given['--library']])
         rust = Side(measure, [args[0], '--bench'], [args[0]])
         here = Side(measure, [loop], [given['--program']])
-        print('| sheet | pairs | visits | raw regions | regions | Rust, µs | here, µs | ratio |\n|---|---|---|---|---|---|---|---|')
+        calls = Side(measure, [compiled(folder, 'calls', [given['--library']])], [])
+        print('| sheet | pairs | visits | raw regions | regions | Rust, µs | here, µs | ratio | calls, µs |\n|---|---|---|---|---|---|---|---|---|')
         for name, make, what in bench_sheets.MAIN + bench_sheets.GROWTH:
-            print(timed(name, make(*what), rust, here, int(given['--runs'])), flush=True)
+            print(timed(name, make(*what), rust, here, calls, int(given['--runs'])), flush=True)
         print('\n| sheet | | Rust | here |\n|---|---|---|---|')
         for name in ('degree25', 'overlap3'):
             make, what = next((m, w) for n, m, w in bench_sheets.MAIN if n == name)
             data = make(*what)
             print('| %s | peak resident set, KB | %d | %d |' % (name, rust.answer(data)[0], here.answer(data)[0]))
             print('| %s | least stack limit, KB | %d | %d |' % (name, least_stack(rust, data), least_stack(here, data)), flush=True)
+        print(flush=True)
+        subprocess.run([compiled(folder, 'merge', [given['--library']])], check=True)
 
 
 if __name__ == '__main__':

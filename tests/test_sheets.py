@@ -1,4 +1,4 @@
-"""The program answers the stored sheets as the Rust did, and the example as document 01 prints it."""
+"""The program answers the stored sheets as the Rust did, and says on standard error when its answer could not be written whole."""
 import pathlib
 import shutil
 import subprocess
@@ -10,6 +10,12 @@ PROGRAM = ROOT / "target/bin/clearance"
 if not shutil.which("rt"):
     sys.exit(print("sheets: no rt here, not run"))
 subprocess.run(["rt", "check", "clearance"], cwd=ROOT, check=True, stdout=subprocess.DEVNULL)
+FULL = pathlib.Path("/dev/full")
+if FULL.exists():
+    with FULL.open("wb") as full, (ROOT / "examples/example.sheet").open("rb") as sheet:
+        told = subprocess.run([PROGRAM], stdin=sheet, stdout=full, stderr=subprocess.PIPE).stderr
+    if told != b"clearance: the answer could not be written whole\n":
+        sys.exit(f"sheets: of an answer that could not be written the program says {told!r}")
 with tempfile.TemporaryDirectory() as folder:
     done = subprocess.run([sys.executable, "-B", ROOT / "tests/compare.py", "--save", folder, "--replay", ROOT / "tests/answers", PROGRAM])
 sys.exit(done.returncode)

@@ -3,21 +3,22 @@ use mathlib.Core.Path.{_≡_, refl, sym, ap, _∙_, subst}
 use mathlib.Core.Logic.{dite}
 use mathlib.Core.Bool.{cond}
 use mathlib.Core.List.{List, [], _∷_, _++_}
-use Prim.Native.Nat.{ℕ, zero, suc, _+_, _*_, _%_, _≤_, _<_}
+use Prim.Native.Nat.{ℕ, zero, suc, _+_, _*_, _≤_, _<_}
 use native.Mathlib.Decide.{decLt}
 use native.Mathlib.Omega.{arith}
 use borrow.Author.Tests.{le-ltb, lt-ltb, ne-eqb}
-use lib.Dec.{ltb, eqb}
+use lib.Dec.{ltb}
 use lib.ListN.{length, getD, take, drop, length-drop, List·getD-append}
 use lib.Seq.{length-take-le, getD-append-add, getD-take, getD-drop}
 use lib.Ieee.{Float, nan}
-use Rattle.floats.specs.Floats.{zero64, one64}
+use Rattle.floats.specs.Floats.{zero64}
 use Rattle.points.specs.declared.Point4D.{Point4D}
 use Rattle.blends.specs.Blends.{mixOf, alphaOf, endOf, coefficient, summed, nothing, pointOf}
 use Rattle.blends.specs.Table.{mixes, levelOf, triangle, units, unitAt, coefficients, weighed}
 use Rattle.lists.specs.Rounds.{paired}
 use Rattle.lists.proofs.Rounds.{length-paired}
 use Rattle.blends.proofs.Laws.{length-level}
+use Rattle.blends.proofs.Rows.{length-units, unit-in-row}
 
 -- ---- one element of a run of blends, and of a level
 getD-mixes : (α : Float) (n : ℕ) (l : List Float) (x : ℕ) → x < length l
@@ -103,11 +104,6 @@ module _ (α : ℕ → ℕ → Float) (p : ℕ) (small : p ≤ 25) where
   all (suc t) r l e h = all t (suc r) (levelOf (α r) (r + 2) (suc t) 0 l) (omega arith) (next r t l e h)
 
 -- ---- level 0
-length-units : (n i : ℕ) → length (units n i) ≡ n
-unfolding units
-length-units zero i = refl
-length-units (suc n) i = ap suc (length-units n (suc i))
-
 getD-units : (n i x : ℕ) → x < n → getD (units n i) x nan ≡ unitAt (i + x)
 unfolding units
 getD-units zero i x h = absurd (omega arith)
@@ -115,12 +111,12 @@ getD-units (suc n) i zero h = let z : i + 0 ≡ i = omega arith in rw z refl
 getD-units (suc n) i (suc x) h = let z : suc i + x ≡ i + suc x = omega arith in getD-units n (suc i) x (omega arith) ∙ ap unitAt z
 
 start : (α : ℕ → ℕ → Float) (p : ℕ) → p ≤ 25 → Held α p 0 (units 702 0)
-unfolding unitAt coefficient
+unfolding coefficient
 start α p small = (
   length-units 702 0,
   λ i x a b.
-      let z : (0 + (27 * i + x)) % 27 ≡ x = omega arith in
-      getD-units 702 0 (27 * i + x) (omega arith) ∙ ap (λ n. cond (eqb n 0) one64 zero64) z,
+      let z : 0 + (27 * i + x) ≡ 27 * i + x = omega arith in
+      getD-units 702 0 (27 * i + x) (omega arith) ∙ ap unitAt z ∙ unit-in-row i x b,
 )
 
 -- ---- the point

@@ -2,9 +2,10 @@
 ghost use mathlib.Core.Path.{_≡_};
 ghost use mathlib.Core.List.{_++_};
 ghost use Prim.Native.Nat.{_+_, _-_, _*_, _≤_, _<_};
-ghost use lib.ListN.{length, take, drop};
+ghost use lib.ListN.{length, take, drop, replicate};
+ghost use Rattle.floats.specs.Floats.{zero64};
 ghost use Rattle.blends.specs.Blends.{mixOf, knotOf, alphaOf, endOf, added, nothing, pointOf, pointsFrom};
-ghost use Rattle.blends.specs.Table.{mixes, levelOf, triangle, units, unitAt, weighed};
+ghost use Rattle.blends.specs.Table.{mixes, levelOf, triangle, units, weighed};
 
 // One blend.
 fn mix(alpha: f64, a: f64, b: f64) -> f64
@@ -85,31 +86,21 @@ fn levels(s: &mut [f64], near: &[f64], p: usize, u: f64, k: usize)
     }
 }
 
-// Room for 26 rows of 27 numbers.
+// Room for 26 rows of 27 numbers, all +0.
 fn zeros() -> [f64; 702]
-    ensures { λ r. ⌜ length r ≡ 702 ⌝ }
+    ensures { λ r. ⌜ (r ≡ replicate 702 zero64) × (length r ≡ 702) ⌝ }
 {
     [0.0f64; 702]
 }
 
-// 1 where a row starts, else 0.
-fn unit_at(i: usize) -> f64
-    ensures { λ r. ⌜ r ≡ unitAt i ⌝ }
-{
-    if i % 27 == 0 {
-        return 1.0;
-    }
-    0.0
-}
-
-// The table of level 0.
+// 1 where each row of the table starts; the table is all +0 before.
 fn start(s: &mut [f64])
-    requires { ⌜ length (now s) ≡ 702 ⌝ }
+    requires { ⌜ now s ≡ replicate 702 zero64 ⌝ }
     ensures { λ r. ⌜ now (s .exit) ≡ units 702 0 ⌝ }
 {
     let mut i = 0;
-    while i < 702 {
-        s[i] = unit_at(i);
+    while i < 26 {
+        s[27 * i] = 1.0;
         i += 1;
     }
 }

@@ -1,6 +1,7 @@
 // A sheet on standard input, its answer on standard output.
 ghost use mathlib.Core.Path.{_≡_};
 ghost use lib.ListN.{length};
+use libc::STDERR_FILENO;
 use libc::STDIN_FILENO;
 use libc::STDOUT_FILENO;
 
@@ -18,10 +19,20 @@ fn answer_room() -> [u8; 145169]
     [0u8; 145169]
 }
 
+// The answer on standard output; a line on standard error where that didn't take the whole of it.
+fn print_answer(text: &[u8]) {
+    if !io::write_all(STDOUT_FILENO, text) {
+        io::write_all(
+            STDERR_FILENO,
+            b"clearance: the answer could not be written whole\n",
+        );
+    }
+}
+
 fn main() {
     let mut s = sheet_room();
     let mut out = answer_room();
     let n = io::read_full(STDIN_FILENO, &mut s);
     let m = sheet::answer(&s[..n], &mut out);
-    io::write_all(STDOUT_FILENO, &out[..m]);
+    print_answer(&out[..m]);
 }

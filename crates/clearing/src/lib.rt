@@ -5,7 +5,6 @@ use verdicts::Verdict;
 ghost use mathlib.Core.Path.{_≡_};
 ghost use Prim.Native.Nat.{_≤_};
 ghost use lib.ListN.{length};
-ghost use Rattle.boxes.specs.Nets.{measuredIn};
 ghost use Rattle.clearing.specs.Extents.{reachedTo, extentOf, apartAlong};
 ghost use Rattle.clearing.specs.Chords.{chordOf, isNull, normalOf, separatedOf};
 ghost use Rattle.clearing.specs.Lines.{isNear, nearLine, isLength, alongAxis, alongOneLine};

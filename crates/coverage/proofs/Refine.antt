@@ -138,14 +138,10 @@ back-sizes n w u e = λ i. record {
 }
 
 -- ---- the numbers of a search, and what the memory holds of it
-abbrev pub bit : Bool → ℕ
-bit true = 1
-bit false = 0
-
 pub record Numbers (q : Asked) (m : Search (shape q)) : Type 0 where
   pub counts : Balance (shape q) (pairsOf q) m
   pub allowance : m .splits + m .unspent ≡ q .quota * pairsOf q
-  pub visited : m .visits ≡ m .splits + length (m .settled) + length (m .given) + bit (m .stopped)
+  pub visited : m .visits ≡ m .splits + length (m .settled) + length (m .given) + cond (m .stopped) 1 0
 
 pub record Held (q : Asked) (m : Search (shape q)) (u : Memory) : Type 0 where
   pub nodes : AllStored q u (m .stack)
@@ -430,9 +426,9 @@ topFits-is q (n ∷ r) w d z =
     subst (λ (x : ℕ). T (leb (suc (length r)) (pairsOf q + x) && leb x limit)) (sym (ap (λ (l : List ℕ). getD l 0 0) z))
     (and-i (leb (suc (length r)) (pairsOf q + depth (shape q) n)) (leb (depth (shape q) n) limit) (le→leb (suc (length r)) (pairsOf q + depth (shape q) n) (d .0)) (le→leb (depth (shape q) n) limit (d .1)))
 
-bit-le : (b : Bool) → bit b ≤ 1
-bit-le true = omega arith
-bit-le false = omega arith
+one-at-most : (b : Bool) → cond b 1 0 ≤ 1
+one-at-most true = omega arith
+one-at-most false = omega arith
 
 pub is-search : (q : Asked) (m : Search (shape q)) (w : Memory) → Numbers q m → TopDepth q w (m .stack) → T (isSearch (stateOf q m) w)
 is-search q m w N z =
@@ -444,7 +440,7 @@ is-search q m w N z =
     and-i b1 (b2 && (b3 && b4)) (topFits-is q (m .stack) w (N .counts .steep) z)
     (and-i b2 (b3 && b4) (eq→eqb (N .counts .balance))
     (and-i b3 b4 (eq→eqb (N .allowance))
-    (le→leb (m .visits) (m .splits + length (m .settled) + length (m .given) + 1) (let v = N .visited in let h = bit-le (m .stopped) in omega arith))))
+    (le→leb (m .visits) (m .splits + length (m .settled) + length (m .given) + 1) (let v = N .visited in let h = one-at-most (m .stopped) in omega arith))))
 
 -- ---- a step on the memory that is lent
 module _ (q : Asked) (low : (w : ℕ) (l : List Float) → length l ≡ 4 * w → length (q .geometry .lowerNet l) ≡ 4 * w) (upp : (w : ℕ) (l : List Float) → length l ≡ 4 * w → length (q .geometry .upperNet l) ≡ 4 * w) where

@@ -1,6 +1,7 @@
 -- What is claimed of every list of calls. Definitions only.
 use mathlib.Core.Path.{_≡_}
 use mathlib.Core.Logic.{_⊎_, _↔_}
+use mathlib.Core.Bool.{cond}
 use mathlib.Core.List.{List, [], _∷_, map}
 use Prim.Native.Nat.{ℕ, _+_, _*_, _^_, _≤_}
 use lib.Dec.{T}
@@ -91,6 +92,9 @@ pub record After (q : Asked) (m : Search (shape q)) (r : Ran) : Type 0 where
   -- pairs + splits = settled + given up + waiting; at most pairs + 64 nodes wait
   pub balance : r .state .pairs + r .state .splits ≡ r .state .settled + r .state .given + r .state .waiting
   pub atMost : r .state .waiting ≤ r .state .pairs + 64
+  -- each split spends one of S × P, and nothing else does; each visit splits, settles or gives up a node, but the one that ends the search at no allowance
+  pub allowance : r .state .splits + r .state .unspent ≡ r .state .quota * r .state .pairs
+  pub visited : r .state .visits ≡ r .state .splits + r .state .settled + r .state .given + cond (r .state .stopped) 1 0
   -- the state's counts are the search's, the memory holds its nodes, the raw slice its given-up regions
   pub state : r .state ≡ stateOf q m
   pub nodes : AllStored q (r .memory) (m .stack)

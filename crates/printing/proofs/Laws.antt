@@ -10,16 +10,12 @@ use lib.Seq.{take-length, length-take-le, take-suc}
 use lib.Ieee.{Float, nan}
 use Rattle.lists.specs.Parts.{patch, block}
 use Rattle.lists.proofs.Parts.{patch-twice, part-is, part-length}
-use Rattle.texts.specs.Texts.{decimalOf, floatText}
+use Rattle.texts.specs.Texts.{Wrote, decimalOf, floatText}
 use Rattle.texts.proofs.Laws.{decimal-fits, float-length}
 use Rattle.regions.specs.declared.Word.{Word}
 use Rattle.regions.specs.declared.Word.the-variants.{Complete, Budget, Unseparated}
 use Rattle.states.specs.declared.Counts.{Counts}
 use Rattle.printing.specs.Printed.{pairsName, visitsName, splitsName, settledName, givenName, leftName, regionsName, refusedText, space, newline, wordText, counted, stepsText, nodesText, countLine, refusalLine, floatTexts, regionLine, regionLines, regionText}
-
--- a text stands in `out'` where it was written into `out` at place `at`, and r is the place behind it
-abbrev pub Wrote : List ℕ → ℕ → List ℕ → List ℕ → ℕ → Type 0
-Wrote out at text out' r = (r ≡ at + length text) × (out' ≡ patch out at text)
 
 -- a text written behind another
 pub joined : (l : List ℕ) (at : ℕ) (xs ys : List ℕ) {l1 l2 : List ℕ} {r1 r2 : ℕ} → (r1 ≡ at + length xs) × (l1 ≡ patch l at xs) → (r2 ≡ r1 + length ys) × (l2 ≡ patch l1 r1 ys) → r2 ≤ length l

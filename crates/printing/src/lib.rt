@@ -2,7 +2,6 @@
 ghost use mathlib.Core.Path.{_≡_};
 ghost use Prim.Native.Nat.{_+_, _*_, _≤_};
 ghost use lib.ListN.{length};
-ghost use Rattle.lists.specs.Parts.{patch};
 ghost use Rattle.texts.specs.Texts.{Wrote};
 ghost use Rattle.printing.specs.Printed.{counted, wordText, stepsText, nodesText, countLine, floatTexts, regionLine, regionLines, refusalLine};
 use regions::Word;
@@ -11,7 +10,7 @@ use states::Counts;
 // A name and a number.
 fn put_count(out: &mut [u8], at: usize, name: &[u8], n: u64) -> usize
     requires { ⌜ at + length (now name) + 20 ≤ length (now out) ⌝ }
-    ensures { λ r. ⌜ Wrote (counted (now (name .entry)) n) at (now (out .entry)) r (now (out .exit)) ⌝ }
+    ensures { λ r. ⌜ Wrote (now (out .entry)) at (counted (now (name .entry)) n) (now (out .exit)) r ⌝ }
     ensures { λ r. ⌜ r ≤ at + length (now (name .entry)) + 20 ⌝ }
 {
     let next = texts::put_bytes(out, at, name);
@@ -20,7 +19,7 @@ fn put_count(out: &mut [u8], at: usize, name: &[u8], n: u64) -> usize
 
 fn put_word(out: &mut [u8], w: Word) -> usize
     requires { ⌜ 11 ≤ length (now out) ⌝ }
-    ensures { λ r. ⌜ Wrote (wordText w) 0 (now (out .entry)) r (now (out .exit)) ⌝ }
+    ensures { λ r. ⌜ Wrote (now (out .entry)) 0 (wordText w) (now (out .exit)) r ⌝ }
     ensures { λ r. ⌜ r ≤ 11 ⌝ }
 {
     match w {
@@ -33,7 +32,7 @@ fn put_word(out: &mut [u8], w: Word) -> usize
 // Pairs, visits and splits.
 fn put_steps(out: &mut [u8], at: usize, c: Counts) -> usize
     requires { ⌜ at + 83 ≤ length (now out) ⌝ }
-    ensures { λ r. ⌜ Wrote (stepsText c) at (now (out .entry)) r (now (out .exit)) ⌝ }
+    ensures { λ r. ⌜ Wrote (now (out .entry)) at (stepsText c) (now (out .exit)) r ⌝ }
     ensures { λ r. ⌜ r ≤ at + 83 ⌝ }
 {
     let pairs = put_count(out, at, b" pairs=", c.pairs as u64);
@@ -44,7 +43,7 @@ fn put_steps(out: &mut [u8], at: usize, c: Counts) -> usize
 // Nodes settled, given up and left.
 fn put_nodes(out: &mut [u8], at: usize, c: Counts) -> usize
     requires { ⌜ at + 82 ≤ length (now out) ⌝ }
-    ensures { λ r. ⌜ Wrote (nodesText c) at (now (out .entry)) r (now (out .exit)) ⌝ }
+    ensures { λ r. ⌜ Wrote (now (out .entry)) at (nodesText c) (now (out .exit)) r ⌝ }
     ensures { λ r. ⌜ r ≤ at + 82 ⌝ }
 {
     let settled = put_count(out, at, b" settled=", c.settled as u64);
@@ -55,7 +54,7 @@ fn put_nodes(out: &mut [u8], at: usize, c: Counts) -> usize
 // The line of counts.
 pub fn put_counts(out: &mut [u8], w: Word, c: Counts, regions: usize) -> usize
     requires { ⌜ 206 ≤ length (now out) ⌝ }
-    ensures { λ r. ⌜ Wrote (countLine w c regions) 0 (now (out .entry)) r (now (out .exit)) ⌝ }
+    ensures { λ r. ⌜ Wrote (now (out .entry)) 0 (countLine w c regions) (now (out .exit)) r ⌝ }
     ensures { λ r. ⌜ r ≤ 206 ⌝ }
 {
     let word = put_word(out, w);
@@ -67,7 +66,7 @@ pub fn put_counts(out: &mut [u8], w: Word, c: Counts, regions: usize) -> usize
 
 fn put_floats(out: &mut [u8], at: usize, xs: &[f64]) -> usize
     requires { ⌜ at + 17 * length (now xs) ≤ length (now out) ⌝ }
-    ensures { λ r. ⌜ Wrote (floatTexts (now (xs .entry))) at (now (out .entry)) r (now (out .exit)) ⌝ }
+    ensures { λ r. ⌜ Wrote (now (out .entry)) at (floatTexts (now (xs .entry))) (now (out .exit)) r ⌝ }
     ensures { λ r. ⌜ r ≡ at + 17 * length (now (xs .entry)) ⌝ }
 {
     let mut here = at;
@@ -82,7 +81,7 @@ fn put_floats(out: &mut [u8], at: usize, xs: &[f64]) -> usize
 // The line of a region.
 fn put_region(out: &mut [u8], at: usize, region: &[f64]) -> usize
     requires { ⌜ (length (now region) ≡ 10) × (at + 177 ≤ length (now out)) ⌝ }
-    ensures { λ r. ⌜ Wrote (regionLine (now (region .entry))) at (now (out .entry)) r (now (out .exit)) ⌝ }
+    ensures { λ r. ⌜ Wrote (now (out .entry)) at (regionLine (now (region .entry))) (now (out .exit)) r ⌝ }
     ensures { λ r. ⌜ r ≡ at + 177 ⌝ }
 {
     let floats = texts::put_bytes(out, at, b"region");
@@ -93,7 +92,7 @@ fn put_region(out: &mut [u8], at: usize, region: &[f64]) -> usize
 // The lines of the first `n` regions.
 pub fn put_regions(out: &mut [u8], at: usize, list: &[f64], n: usize) -> usize
     requires { ⌜ (n * 10 ≤ length (now list)) × (at + 177 * n ≤ length (now out)) ⌝ }
-    ensures { λ r. ⌜ Wrote (regionLines n (now (list .entry))) at (now (out .entry)) r (now (out .exit)) ⌝ }
+    ensures { λ r. ⌜ Wrote (now (out .entry)) at (regionLines n (now (list .entry))) (now (out .exit)) r ⌝ }
     ensures { λ r. ⌜ r ≡ at + 177 * n ⌝ }
 {
     let mut here = at;
@@ -109,7 +108,7 @@ pub fn put_regions(out: &mut [u8], at: usize, list: &[f64], n: usize) -> usize
 
 pub fn put_refusal(out: &mut [u8], number: u8, line: u8) -> usize
     requires { ⌜ 50 ≤ length (now out) ⌝ }
-    ensures { λ r. ⌜ Wrote (refusalLine number line) 0 (now (out .entry)) r (now (out .exit)) ⌝ }
+    ensures { λ r. ⌜ Wrote (now (out .entry)) 0 (refusalLine number line) (now (out .exit)) r ⌝ }
 {
     let first = put_count(out, 0, b"refused ", number as u64);
     let second = put_count(out, first, b" ", line as u64);

@@ -31,7 +31,8 @@ use Rattle.report.specs.Reports.{Reporting, reporting, rawAfter, writeReport, r
 use Rattle.report.proofs.Laws.{room-left}
 use Rattle.printing.specs.Printed.{countLine, regionLines, refusalLine}
 use Rattle.sheet.specs.Answers.{zeros, zeroDepths, reportedText, reportText, steppedText, searchText, openedText, linesText}
-use Rattle.printing.proofs.Laws.{Wrote, joined}
+use Rattle.texts.specs.Texts.{Wrote}
+use Rattle.printing.proofs.Laws.{joined}
 
 -- ---- the regions told are as few as the report slice holds
 abbrev toldOf : Reported → ℕ

@@ -21,7 +21,7 @@ use Rattle.opening.specs.declared.Question.{Question as Asking}
 use Rattle.opening.specs.Opens.{lineOf, questionOf}
 use Rattle.printing.specs.Printed.{refusalLine}
 use Rattle.sheet.specs.Answers.{lineIn, askingAt, linesText, walkedText, answerOf, answerLength, answerIn}
-use Rattle.printing.proofs.Laws.{Wrote}
+use Rattle.texts.specs.Texts.{Wrote}
 
 -- ---- the front of an array that a list was read into
 front : {A : Type 0} (room vs : List A) (k : ℕ) → length vs ≡ k → take k (patch room 0 vs) ≡ vs

@@ -14,7 +14,6 @@ use report::Reported;
 use search::Stepped;
 use states::State;
 use walks::Line;
-use walks::Sheet;
 
 // ---- from a search to its text
 
@@ -31,7 +30,7 @@ fn answer_report<'a>(
 ) -> usize
     requires { ⌜ (145169 ≤ length (now out)) × (length (now list) ≤ 8190) ⌝ }
     ensures { λ r. ⌜ (let u = memory (now (nets1 .entry)) (now (nets2 .entry)) (now (ranges .entry)) (now (depths .entry)) (now (raw .entry)) in
-        Wrote (reportText st u (now (list .entry))) 0 (now (out .entry)) r (now (out .exit))) ⌝ }
+        Wrote (now (out .entry)) 0 (reportText st u (now (list .entry))) (now (out .exit)) r) ⌝ }
 {
     match report::report(st, nets1, nets2, ranges, depths, raw, list) {
         Reported::Told(w, c, n) => {
@@ -56,7 +55,7 @@ fn answer_search(
 ) -> usize
     requires { ⌜ (145169 ≤ length (now out)) × (length (now list) ≤ 8190) ⌝ }
     ensures { λ r. ⌜ (let u = memory (now (nets1 .entry)) (now (nets2 .entry)) (now (ranges .entry)) (now (depths .entry)) (now (raw .entry)) in
-        Wrote (searchText st u (now (list .entry))) 0 (now (out .entry)) r (now (out .exit))) ⌝ }
+        Wrote (now (out .entry)) 0 (searchText st u (now (list .entry))) (now (out .exit)) r) ⌝ }
 {
     match search::run(st, nets1, nets2, ranges, depths, raw) {
         Stepped::Next(end) => answer_report(end, nets1, nets2, ranges, depths, raw, list, out),
@@ -113,7 +112,7 @@ fn answer_lines(
     requires { ⌜ 145169 ≤ length (now out) ⌝ }
     ensures { λ r. ⌜ (let l1 = lineOf degree1 (now (knots1 .entry)) (now (mults1 .entry)) (now (coords1 .entry)) (now (weights1 .entry)) in
         let l2 = lineOf degree2 (now (knots2 .entry)) (now (mults2 .entry)) (now (coords2 .entry)) (now (weights2 .entry)) in
-        Wrote (linesText (questionOf q l1 l2)) 0 (now (out .entry)) r (now (out .exit))) ⌝ }
+        Wrote (now (out .entry)) 0 (linesText (questionOf q l1 l2)) (now (out .exit)) r) ⌝ }
 {
     let mut pieces1 = piece_room();
     let mut pieces2 = piece_room();
@@ -207,7 +206,7 @@ fn answer_second(
     requires { ⌜ (145169 ≤ length (now out)) × (length (now s) ≤ 16384) × LineInside (length (now s)) l ⌝ }
     ensures { λ r. ⌜ (let l1 = lineOf degree1 (now (knots1 .entry)) (now (mults1 .entry)) (now (coords1 .entry)) (now (weights1 .entry)) in
         let l2 = lineIn (walkedLine (now (s .entry)) l) in
-        Wrote (linesText (questionOf q l1 l2)) 0 (now (out .entry)) r (now (out .exit))) ⌝ }
+        Wrote (now (out .entry)) 0 (linesText (questionOf q l1 l2)) (now (out .exit)) r) ⌝ }
 {
     let mut knots = float_room();
     let mut mults = word_room();
@@ -239,7 +238,7 @@ fn answer_first(s: &[u8], q: Question, l: Line, second: Line, out: &mut [u8]) ->
     requires { ⌜ (145169 ≤ length (now out)) × (length (now s) ≤ 16384) × LineInside (length (now s)) l × LineInside (length (now s)) second ⌝ }
     ensures { λ r. ⌜ (let l1 = lineIn (walkedLine (now (s .entry)) l) in
         let l2 = lineIn (walkedLine (now (s .entry)) second) in
-        Wrote (linesText (questionOf q l1 l2)) 0 (now (out .entry)) r (now (out .exit))) ⌝ }
+        Wrote (now (out .entry)) 0 (linesText (questionOf q l1 l2)) (now (out .exit)) r) ⌝ }
 {
     let mut knots = float_room();
     let mut mults = word_room();

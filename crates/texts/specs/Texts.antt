@@ -9,8 +9,8 @@ use lib.Ieee.{Float, binary64, ofBits, toBits, eq, isNan}
 use Rattle.lists.specs.Parts.{patch}
 
 -- what each function that writes promises: the text stands in the buffer from place `at` on, the rest of the buffer is as before, and the answer is the place behind the text
-abbrev pub Wrote : List ℕ → ℕ → List ℕ → ℕ → List ℕ → Type 0
-Wrote text at before answer after = (answer ≡ at + length text) × (after ≡ patch before at text)
+abbrev pub Wrote : List ℕ → ℕ → List ℕ → List ℕ → ℕ → Type 0
+Wrote before at text after answer = (answer ≡ at + length text) × (after ≡ patch before at text)
 
 -- a digit below 16: 0 to 9 as 48 to 57, ten to fifteen as A to F, 65 to 70 (`hex_digit`)
 unfoldable pub hexDigit : ℕ → ℕ

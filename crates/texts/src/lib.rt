@@ -7,7 +7,7 @@ ghost use Rattle.texts.specs.Texts.{Wrote, hexDigit, digitsOf, placesIn,
 
 pub fn put_bytes(out: &mut [u8], at: usize, text: &[u8]) -> usize
     requires { ⌜ at + length (now text) ≤ length (now out) ⌝ }
-    ensures { λ r. ⌜ Wrote (now (text .entry)) at (now (out .entry)) r (now (out .exit)) ⌝ }
+    ensures { λ r. ⌜ Wrote (now (out .entry)) at (now (text .entry)) (now (out .exit)) r ⌝ }
 {
     let mut i = 0usize;
     while i < text.len() {
@@ -57,7 +57,7 @@ fn places(n: u64) -> usize
 
 pub fn put_decimal(out: &mut [u8], at: usize, n: u64) -> usize
     requires { ⌜ at + 20 ≤ length (now out) ⌝ }
-    ensures { λ r. ⌜ Wrote (decimalOf n) at (now (out .entry)) r (now (out .exit)) ⌝ }
+    ensures { λ r. ⌜ Wrote (now (out .entry)) at (decimalOf n) (now (out .exit)) r ⌝ }
 {
     let k = places(n);
     put_digits(out, at, 10, k, n);
@@ -80,7 +80,7 @@ fn bits(x: f64) -> u64
 // A space and sixteen hexadecimal digits.
 pub fn put_float(out: &mut [u8], at: usize, x: f64) -> usize
     requires { ⌜ at + 17 ≤ length (now out) ⌝ }
-    ensures { λ r. ⌜ Wrote (floatText x) at (now (out .entry)) r (now (out .exit)) ⌝ }
+    ensures { λ r. ⌜ Wrote (now (out .entry)) at (floatText x) (now (out .exit)) r ⌝ }
 {
     out[at] = 32;
     put_digits(out, at + 1, 16, 16, bits(x));

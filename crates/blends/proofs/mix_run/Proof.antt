@@ -8,7 +8,6 @@ use borrow.Author.Needs.{needs}
 use Rattle.blends.specs.Blends.{mixOf}
 use Rattle.blends.specs.Table.{mixes}
 use Rattle.lists.proofs.Rounds as rounds
-use Rattle.lists.proofs.Loops as loops
 use Rattle.blends.proofs.mix_run.Statement.{statement}
 use Rattle.blends.proofs.mix_run.Tie as tie
 

@@ -7,7 +7,6 @@ use native.Mathlib.Omega.{arith}
 use lib.ListN.{length, take, drop}
 use borrow.Author.Needs.{needs}
 use Rattle.blends.specs.Blends.{pointOf, pointsFrom}
-use Rattle.lists.proofs.Rounds as rounds
 use Rattle.lists.proofs.Loops as loops
 use Rattle.blends.proofs.points.Statement.{statement}
 use Rattle.blends.proofs.points.Tie as tie

@@ -1,30 +1,30 @@
--- `start` fills the table of level 0. Assumes nothing.
-use mathlib.Core.Path.{_≡_, refl, _∙_}
+-- `start` makes the table of level 0, one row a turn. Assumes nothing.
+use mathlib.Core.Path.{_≡_}
 use mathlib.Core.List.{_++_}
-use Prim.Native.Nat.{_-_, _≤_}
-use native.Mathlib.Omega.{arith}
-use lib.ListN.{length, take}
+use Prim.Native.Nat.{_-_, _*_, _≤_}
+use lib.ListN.{length, replicate}
 use borrow.Author.Needs.{needs}
-use Rattle.blends.specs.Table.{units, unitAt}
-use Rattle.lists.proofs.Rounds as rounds
-use Rattle.lists.proofs.Loops as loops
+use Rattle.floats.specs.Floats.{zero64}
+use Rattle.blends.specs.Table.{units}
+use Rattle.blends.proofs.Rows as rows
 use Rattle.blends.proofs.start.Statement.{statement}
 use Rattle.blends.proofs.start.Tie as tie
 
 abbrev Inv-loop : tie.InvT-loop
-Inv-loop s₀ i₀ s i = (length s ≡ 702) × (i ≤ 702) × (take i s ++ units (702 - i) i ≡ units 702 0)
+Inv-loop s₀ i₀ s i = (length s ≡ 702) × (i ≤ 26) × (s ≡ units (27 * i) 0 ++ replicate (702 - 27 * i) zero64)
 
 abbrev μ-loop : tie.MeasureT-loop
-μ-loop s₀ i₀ s i = 702 - i
+μ-loop s₀ i₀ s i = 26 - i
 
 loop-holds : tie.Need-loop-holds Inv-loop μ-loop
-loop-holds c = (search needs, search needs, refl)
-
-unit-at-requires : tie.Need-unit-at-requires Inv-loop μ-loop
-unit-at-requires c κs = search needs
+unfolding units
+loop-holds c = (search needs, search needs, c .pre)
 
 mul-s : tie.Need-mul-s Inv-loop μ-loop
 mul-s c = search needs
+
+mul-s-2 : tie.Need-mul-s-2 Inv-loop μ-loop
+mul-s-2 c = search needs
 
 slice-write-s : tie.Need-slice-write-s Inv-loop μ-loop
 slice-write-s c = search needs
@@ -37,14 +37,16 @@ loop-less c = search needs
 
 loop-again : tie.Need-loop-again Inv-loop μ-loop
 loop-again c =
-    let l = c .before .before .loop in
-    (search needs, search needs, loops.fill-turn units unitAt (λ n i. unfold units in refl) (l .s) 702 (l .i) (c .unit-at .result) (search needs) (omega arith) (c .unit-at .ensures) ∙ l .inv .2)
+    let l = c .before .loop in
+    (search needs, search needs, rows.start-turn (l .s) (l .i) (search needs) (l .inv .2))
 
 same-length : tie.Need-same-length Inv-loop μ-loop
 same-length c = search needs
 
 returns : tie.Need-returns Inv-loop μ-loop
-returns c = loops.fill-done units (λ i. unfold units in refl) (c .before .loop .s) _ 702 (c .before .loop .i) (c .before .loop .i) (search needs) (omega arith) (c .before .loop .inv .2)
+returns c =
+    let l = c .before .loop in
+    rows.start-done (l .s) (l .i) (l .inv .1) (search needs) (l .inv .2)
 
 pub start-spec : {M : Type 1} → statement M
 start-spec =
@@ -53,8 +55,8 @@ start-spec =
     Inv-loop
     μ-loop
     loop-holds
-    unit-at-requires
     mul-s
+    mul-s-2
     slice-write-s
     add-i
     loop-less

@@ -34,11 +34,11 @@ answer-requires c κs = search needs
 array-share-prefix-out : tie.Need-array-share-prefix-out
 array-share-prefix-out c = text-fits (take (c .before .before .before .before .before .read-full .result) (c .before .before .before .before .before .read-full .last .1 .0)) (c .before .before .before .before .before .before .before .answer-room .result) (c .before .answer .ensures)
 
-slice-aggregate-write-all : tie.Need-slice-aggregate-write-all
-slice-aggregate-write-all c = sym (length-take-le (c .before .before .answer .result) (c .before .before .answer .last .1 .0) (text-fits (take (c .before .before .before .before .before .before .read-full .result) (c .before .before .before .before .before .before .read-full .last .1 .0)) (c .before .before .before .before .before .before .before .before .answer-room .result) (c .before .before .answer .ensures)))
+slice-aggregate-print-answer : tie.Need-slice-aggregate-print-answer
+slice-aggregate-print-answer c = sym (length-take-le (c .before .before .answer .result) (c .before .before .answer .last .1 .0) (text-fits (take (c .before .before .before .before .before .before .read-full .result) (c .before .before .before .before .before .before .read-full .last .1 .0)) (c .before .before .before .before .before .before .before .before .answer-room .result) (c .before .before .answer .ensures)))
 
-write-all-requires : tie.Need-write-all-requires
-write-all-requires c κs = search needs
+print-answer-requires : tie.Need-print-answer-requires
+print-answer-requires c κs = search needs
 
 returns : tie.Need-returns
 returns c = search needs
@@ -56,6 +56,6 @@ main-spec =
     slice-aggregate-answer-2
     answer-requires
     array-share-prefix-out
-    slice-aggregate-write-all
-    write-all-requires
+    slice-aggregate-print-answer
+    print-answer-requires
     returns)

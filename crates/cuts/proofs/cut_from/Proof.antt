@@ -6,7 +6,6 @@ use lib.ListN.{length}
 use borrow.Author.Needs.{needs}
 use Rattle.cuts.specs.Cuts.{lerpOf, fromOf}
 use Rattle.lists.proofs.Rounds as rounds
-use Rattle.lists.proofs.Loops as loops
 use Rattle.cuts.proofs.cut_from.Statement.{statement}
 use Rattle.cuts.proofs.cut_from.Tie as tie
 

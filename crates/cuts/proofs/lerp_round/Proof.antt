@@ -8,7 +8,6 @@ use lib.ListN.{length, take, drop}
 use borrow.Author.Needs.{needs}
 use Rattle.cuts.specs.Cuts.{lerpOf, lerps}
 use Rattle.lists.proofs.Rounds as rounds
-use Rattle.lists.proofs.Loops as loops
 use Rattle.cuts.proofs.lerp_round.Statement.{statement}
 use Rattle.cuts.proofs.lerp_round.Tie as tie
 
