@@ -1,12 +1,15 @@
--- Whole searches by the definitions alone: the opening, the loop with the own verdicts, the report, in as much memory as they need. Definitions only.
+-- Document 01's starred lines as one list of cases: roots, the pieces of a line, and whole searches (the opening, the loop with the own verdicts, the report, in as much memory
+-- as they need). Definitions only.
 use mathlib.Core.Path.{_≡_}
-use mathlib.Core.List.{List, [], _∷_}
+use mathlib.Core.List.{List, [], _∷_, map}
 use Prim.Native.Nat.{ℕ, suc, _*_}
 use lib.ListN.{replicate, take}
-use lib.Ieee.{Float, binary64, ofBits}
+use lib.Ieee.{Float, binary64, ofBits, toBits}
+use Rattle.roots.specs.Root.{rootOf}
 use Rattle.floats.specs.Floats.{zero64, one64, half64}
 use Rattle.regions.specs.Reports.{wordNumber}
 use Rattle.facts.specs.Faults.{Line, Question}
+use Rattle.curves.specs.Curves.{piecesOf}
 use Rattle.states.specs.States.{Memory, memory}
 use Rattle.search.specs.declared.Stepped.{Stepped}
 use Rattle.search.specs.declared.Stepped.the-variants.{Next, Ended, NoRoom}
@@ -74,10 +77,31 @@ ranFrom splits OpenNoRoom u = refused 19
 abbrev pub search : Question → Answer
 search q = let o = openDef q (replicate 8 zero64) (replicate 8 zero64) (room (q .splits)) in ranFrom (q .splits) (o .answer) (o .memory)
 
--- a case: a question, and the answer that document 01 gives
-pub record Case : Type 0 where
-  pub asked : Question
-  pub answer : Answer
+-- A case: a number and its root by their patterns; a line, a range of it and its pieces' nets, four numbers a point; a question and its answer.
+pub data Case : Type 0 where
+  root : ℕ → ℕ → Case
+  pieces : Line → Float → Float → List Float → Case
+  searching : Question → Answer → Case
+
+-- it comes out as it says
+abbrev pub Holds : Case → Type 0
+Holds (root x r) = (toBits binary64 (rootOf (ofBits binary64 x)) ≡ r)
+Holds (pieces l lo hi nets) = (piecesOf (l .degree) (l .knots) (l .mults) (l .coords) (l .weights) lo hi ≡ nets)
+Holds (searching q a) = (search q ≡ a)
+
+-- degree 2, knots 0, 1, 2 with multiplicities 3, 1, 3, poles (0,0,0), (0,2,0), (2,2,0), (2,0,0)
+abbrev pub lineOfTwo : Line
+lineOfTwo = record {
+  degree = 2;
+  knots = zero64 ∷ one64 ∷ two64 ∷ [];
+  mults = 3 ∷ 1 ∷ 3 ∷ [];
+  coords = zero64 ∷ zero64 ∷ zero64 ∷ zero64 ∷ two64 ∷ zero64 ∷ two64 ∷ two64 ∷ zero64 ∷ two64 ∷ zero64 ∷ zero64 ∷ [];
+  weights = [];
+}
+
+-- (x, y, 0) with weight 1
+abbrev pub at : Float → Float → List Float → List Float
+at x y l = x ∷ y ∷ zero64 ∷ one64 ∷ l
 
 -- A = (0,0,0) to (2,2,0)
 abbrev pub lineA : Line
@@ -87,37 +111,51 @@ lineA = straight zero64 zero64 two64 two64
 abbrev pub wholeRegion : Float → List Float
 wholeRegion x = zero64 ∷ one64 ∷ zero64 ∷ one64 ∷ zero64 ∷ zero64 ∷ zero64 ∷ x ∷ two64 ∷ zero64 ∷ []
 
--- "Lines drawn for checking", the starred searches
+-- "Lines drawn for checking", the starred ones
 abbrev pub starred : List Case
 starred =
-    -- with (0,2,0) to (2,0,0), gap 0: S 0 gives budget, left 1
-    record {
-      asked = question lineA (straight zero64 two64 two64 zero64) zero64 0;
-      answer = record { word = 1; counts = 1 ∷ 1 ∷ 0 ∷ 0 ∷ 0 ∷ 1 ∷ 0 ∷ []; regions = wholeRegion two64; left = zero64 ∷ one64 ∷ zero64 ∷ one64 ∷ [] };
-    }
+    -- the roots of 2, of 4 and of 2^−1074
+    root 0x4000_0000_0000_0000 0x3FF6_A09E_667F_3BCD
+    ∷ root 0x4010_0000_0000_0000 0x4000_0000_0000_0000
+    ∷ root 1 0x1E60_0000_0000_0000
+    -- pieces (0,0), (0,2), (1,2) and (1,2), (2,2), (2,0), z 0
+    ∷ pieces lineOfTwo zero64 two64 (at zero64 zero64 (at zero64 two64 (at one64 two64 (at one64 two64 (at two64 two64 (at two64 zero64 []))))))
+    -- A with (0,2,0) to (2,0,0), gap 0: S 0 gives budget, left 1
+    ∷ searching (question lineA (straight zero64 two64 two64 zero64) zero64 0)
+    (record { word = 1; counts = 1 ∷ 1 ∷ 0 ∷ 0 ∷ 0 ∷ 1 ∷ 0 ∷ []; regions = wholeRegion two64; left = zero64 ∷ one64 ∷ zero64 ∷ one64 ∷ [] })
     -- S 1 halves the second, visits 2, splits 1, left 2, one region of whole ranges
-    ∷ record {
-      asked = question lineA (straight zero64 two64 two64 zero64) zero64 1;
-      answer = record { word = 1; counts = 1 ∷ 2 ∷ 1 ∷ 0 ∷ 0 ∷ 2 ∷ 0 ∷ []; regions = wholeRegion two64; left = zero64 ∷ one64 ∷ half64 ∷ one64 ∷ zero64 ∷ one64 ∷ zero64 ∷ half64 ∷ [] };
-    }
+    ∷ searching (question lineA (straight zero64 two64 two64 zero64) zero64 1)
+    (record { word = 1; counts = 1 ∷ 2 ∷ 1 ∷ 0 ∷ 0 ∷ 2 ∷ 0 ∷ []; regions = wholeRegion two64; left = zero64 ∷ one64 ∷ half64 ∷ one64 ∷ zero64 ∷ one64 ∷ zero64 ∷ half64 ∷ [] })
     -- with (1,0,0) to (3,2,0): gap 0.5 complete, settled 1
-    ∷ record {
-      asked = question lineA (straight one64 zero64 three64 two64) half64 0;
-      answer = record { word = 0; counts = 1 ∷ 1 ∷ 0 ∷ 1 ∷ 0 ∷ 0 ∷ 0 ∷ []; regions = []; left = [] };
-    }
+    ∷ searching (question lineA (straight one64 zero64 three64 two64) half64 0)
+    (record { word = 0; counts = 1 ∷ 1 ∷ 0 ∷ 1 ∷ 0 ∷ 0 ∷ 0 ∷ []; regions = []; left = [] })
     -- gap 1 unseparated, given 1
-    ∷ record {
-      asked = question lineA (straight one64 zero64 three64 two64) one64 0;
-      answer = record { word = 2; counts = 1 ∷ 1 ∷ 0 ∷ 0 ∷ 1 ∷ 0 ∷ 0 ∷ []; regions = wholeRegion three64; left = [] };
-    }
+    ∷ searching (question lineA (straight one64 zero64 three64 two64) one64 0)
+    (record { word = 2; counts = 1 ∷ 1 ∷ 0 ∷ 0 ∷ 1 ∷ 0 ∷ 0 ∷ []; regions = wholeRegion three64; left = [] })
     -- with (10,0,0) to (12,2,0), gap 0: pairs 0, complete
-    ∷ record {
-      asked = question lineA (straight ten64 zero64 twelve64 two64) zero64 0;
-      answer = record { word = 0; counts = 0 ∷ 0 ∷ 0 ∷ 0 ∷ 0 ∷ 0 ∷ 0 ∷ []; regions = []; left = [] };
-    }
+    ∷ searching (question lineA (straight ten64 zero64 twelve64 two64) zero64 0)
+    (record { word = 0; counts = 0 ∷ 0 ∷ 0 ∷ 0 ∷ 0 ∷ 0 ∷ 0 ∷ []; regions = []; left = [] })
     ∷ []
 
--- each case of the list comes out as it says
-abbrev pub AllHold : List Case → Type 0
-AllHold [] = Unit {0}
-AllHold (c ∷ cs) = (search (c .asked) ≡ c .answer) × AllHold cs
+-- One more, with the bits that the Rust gives: a line of degree 3 with weights over a range inside its bounds.
+abbrev pub floats : List ℕ → List Float
+floats l = map (ofBits binary64) l
+
+abbrev pub weighted : Case
+weighted = pieces
+    (record {
+      degree = 3;
+      knots = floats (0 ∷ 0x3ff0_0000_0000_0000 ∷ 0x4004_0000_0000_0000 ∷ []);
+      mults = 4 ∷ 1 ∷ 4 ∷ [];
+      coords = floats (
+          0xbff0_0000_0000_0000 ∷ 0x4000_0000_0000_0000 ∷ 0x401c_0000_0000_0000 ∷ 0xc022_0000_0000_0000 ∷ 0x4014_0000_0000_0000 ∷ 0xc000_0000_0000_0000 ∷
+          0xc020_0000_0000_0000 ∷ 0xc010_0000_0000_0000 ∷ 0xc018_0000_0000_0000 ∷ 0x4000_0000_0000_0000 ∷ 0x4018_0000_0000_0000 ∷ 0xc000_0000_0000_0000 ∷
+          0x4008_0000_0000_0000 ∷ 0x4020_0000_0000_0000 ∷ 0xc018_0000_0000_0000 ∷ []);
+      weights = floats (0x3ff0_0000_0000_0000 ∷ 0x3fe0_0000_0000_0000 ∷ 0x3ff0_0000_0000_0000 ∷ 0x4008_0000_0000_0000 ∷ 0x4000_0000_0000_0000 ∷ []);
+    })
+    (ofBits binary64 0x3fd0_0000_0000_0000) (ofBits binary64 0x3ffc_0000_0000_0000)
+    (floats (
+    0xc009_c333_3333_3333 ∷ 0x3ffe_9d70_a3d7_0a3d ∷ 0x4000_5999_9999_999a ∷ 0x3fe7_f851_eb85_1eb8 ∷ 0xc014_1999_9999_999a ∷ 0x3ff7_c28f_5c28_f5c3 ∷ 0xbfff_3333_3333_3334 ∷ 0x3fe3_ae14_7ae1_47ae ∷
+    0xc016_3333_3333_3334 ∷ 0x3fd8_f5c2_8f5c_28f8 ∷ 0xc00a_6666_6666_6667 ∷ 0x3fe9_eb85_1eb8_51ec ∷ 0xc012_0000_0000_0000 ∷ 0x3ffd_c28f_5c28_f5c6 ∷ 0xc010_cccc_cccc_cccd ∷ 0x3ff2_3d70_a3d7_0a3e ∷
+    0xc012_0000_0000_0000 ∷ 0x3ffd_c28f_5c28_f5c6 ∷ 0xc010_cccc_cccc_cccd ∷ 0x3ff2_3d70_a3d7_0a3e ∷ 0xc00b_9999_9999_9999 ∷ 0x400a_a3d7_0a3d_70a6 ∷ 0xc014_6666_6666_6666 ∷ 0x3ff7_851e_b851_eb86 ∷
+    0xbfea_6666_6666_6664 ∷ 0x401d_75c2_8f5c_28f7 ∷ 0xc016_3333_3333_3333 ∷ 0x3ffe_f5c2_8f5c_28f7 ∷ 0x3ff8_9999_9999_999a ∷ 0x4025_90a3_d70a_3d71 ∷ 0xc01a_1999_9999_999a ∷ 0x4001_8a3d_70a3_d70b ∷ []))

@@ -6,4 +6,4 @@ pub mod Cover
 pub mod Questions
 pub mod Climbs
 pub mod Spans
-pub mod Stars
+pub mod Facts

@@ -15,7 +15,7 @@ use lib.Ieee.Digits.{size-le, size-reaches}
 use lib.Ieee.Fits.{two, reach, down-pos, kept-lt, nearest-le}
 use lib.Ieee.Exact.{HasValue, units-val}
 use Rattle.roots.specs.Root.{rounded, rootUnits, rootIn}
-use Rattle.roots.specs.Nearest.{Rooted}
+use Rattle.roots.specs.Nearest.{Rooted, RootNearest}
 use Rattle.roots.proofs.Whole.{Root, Cmp, cmp, four-pow, sq-lt}
 use Rattle.roots.proofs.Held.{Held, held, unitsOf}
 use Rattle.roots.proofs.Patterns.{units-held}
@@ -237,5 +237,8 @@ module _ (f : Format) (m : ℕ) (e : ℤ) (t : T (fits f (fin false m e))) where
   unfolding rootIn rootUnits rounded
   is-units = refl
 
-  pub root-nearest : Rooted f m e
-  root-nearest = rooted (units f false r k) is-units (units-val f false r k fine) (units-held f r k r-few fine)
+  nearest-one : Rooted f m e
+  nearest-one = rooted (units f false r k) is-units (units-val f false r k fine) (units-held f r k r-few fine)
+
+pub root-nearest : RootNearest
+root-nearest = nearest-one

@@ -34,3 +34,7 @@ pub record Rooted (f : Format) (m : ℕ) (e : lib.IntN.ℤ) : Type 0 where
   pub d : lib.IntN.ℤ
   pub is : rootIn f (fin false m e) ≡ fin false n d
   pub near : NearestRoot f m e n d
+
+-- the root of every number from +0 up, in every format, is correctly rounded (`root-nearest`)
+abbrev pub RootNearest : Type 0
+RootNearest = (f : Format) (m : ℕ) (e : lib.IntN.ℤ) → T (fits f (fin false m e)) → Rooted f m e

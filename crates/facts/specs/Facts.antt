@@ -1,0 +1,36 @@
+-- The theorems of this crate. Definitions only.
+use mathlib.Core.Path.{_≡_}
+use mathlib.Core.Logic.{_↔_}
+use mathlib.Core.Bool.{true}
+use Prim.Native.Nat.{ℕ, _<_}
+use lib.Ieee.{Float}
+use Rattle.lists.specs.Members.{Any}
+use Rattle.floats.specs.Stations.{InRange, Piece, piecesFrom}
+use Rattle.lines.specs.declared.Admission.the-variants.{Admitted}
+use Rattle.lines.specs.Admit.{admissionNumber}
+use Rattle.questions.specs.declared.Asked.the-variants.{Fine}
+use Rattle.questions.specs.Questions.{rangeFits}
+use Rattle.curves.specs.Curves.{piecesOf}
+use Rattle.facts.specs.Faults.{Line, admission, LineFault, FirstLineFault, Question, asked, askedPlace, bounds, QuestionFault, FirstQuestionFault}
+use Rattle.facts.specs.Cover.{cutsOf, netsIn}
+
+-- "When, and only then", numbers 4 to 14: a line gets a number exactly if that row is the first that it meets, and is admitted exactly if it meets none.
+abbrev pub LineTable : Type 0
+LineTable = (l : Line) →
+    ((n : ℕ) → 0 < n → (admissionNumber (admission l) ≡ n) ↔ FirstLineFault n l)
+    × ((admission l ≡ Admitted) ↔ ((n : ℕ) → LineFault n l → ⊥))
+
+-- The same of a question about two admitted lines, numbers 15 to 18, each with the line at fault.
+abbrev pub QuestionTable : Type 0
+QuestionTable = (q : Question) → admission (q .line1) ≡ Admitted → admission (q .line2) ≡ Admitted →
+    ((n : ℕ × ℕ) → 0 < n .0 → (askedPlace q ≡ n) ↔ FirstQuestionFault n q)
+    × ((asked q ≡ Fine) ↔ ((n : ℕ × ℕ) → QuestionFault n q → ⊥))
+
+-- Each double of a range that passes 15 lies in the range of some piece.
+abbrev pub PiecesCover : Type 0
+PiecesCover = (l : Line) (lo hi : Float) → admission l ≡ Admitted → rangeFits (bounds l) lo hi ≡ true
+    → (s : Float) → InRange lo hi s → Any (λ (p : Piece). InRange (p .lo) (p .hi) s) (piecesFrom lo (cutsOf l lo hi))
+
+-- What is written for a line are the nets of these pieces, one after the other.
+abbrev pub PiecesWritten : Type 0
+PiecesWritten = (l : Line) (lo hi : Float) → piecesOf (l .degree) (l .knots) (l .mults) (l .coords) (l .weights) lo hi ≡ netsIn (cutsOf l lo hi)
