@@ -32,7 +32,9 @@ getD-mixes α (suc n) (a ∷ l) (suc x) h =
     rw q (getD-mixes α n l x (omega arith) ∙ ap (λ b. cond b (mixOf α (getD l x nan) (getD l (x + 26) nan)) (getD l x nan)) (same-test x n))
   where
     same-test : (x n : ℕ) → ltb x n ≡ ltb (suc x) (suc n)
-    same-test x n = dite (decLt x n) (λ a. lt-ltb x n a ∙ sym (lt-ltb (suc x) (suc n) (omega arith))) (λ a. le-ltb x n (omega arith) ∙ sym (le-ltb (suc x) (suc n) (omega arith)))
+    same-test x n =
+        dite (decLt x n) (λ a. lt-ltb x n a ∙ sym (lt-ltb (suc x) (suc n) (omega arith)))
+        (λ a. le-ltb x n (omega arith) ∙ sym (le-ltb (suc x) (suc n) (omega arith)))
 
 drop-mixes : (α : Float) (n k : ℕ) (l : List Float) → n ≤ k → drop k (mixes α n l) ≡ drop k l
 unfolding paired
@@ -81,7 +83,10 @@ Held α p r l = (length l ≡ 702) × ((i x : ℕ) → i + r ≤ p → x < 27 �
 module _ (α : ℕ → ℕ → Float) (p : ℕ) (small : p ≤ 25) where
   next : (r t : ℕ) (l : List Float) → r + suc t ≡ p → Held α p r l → Held α p (suc r) (levelOf (α r) (r + 2) (suc t) 0 l)
   unfolding coefficient
-  next r t l e h = (length-level (α r) (r + 2) (suc t) 0 l ∙ h .0, λ i x a b. getD-level (α r) (r + 2) (suc t) 0 l i x (omega arith) (omega arith) b (omega (arith, h .0)) ∙ at i x a b)
+  next r t l e h = (
+    length-level (α r) (r + 2) (suc t) 0 l ∙ h .0,
+    λ i x a b. getD-level (α r) (r + 2) (suc t) 0 l i x (omega arith) (omega arith) b (omega (arith, h .0)) ∙ at i x a b,
+  )
     where
       at : (i x : ℕ) → i + suc r ≤ p → x < 27
           → cond (ltb x (r + 2)) (mixOf (α r (0 + i)) (getD l (27 * i + x) nan) (getD l (27 * i + x + 26) nan)) (getD l (27 * i + x) nan) ≡ coefficient α (suc r) i x
@@ -120,7 +125,8 @@ start α p small = (
 )
 
 -- ---- the point
-weighed-is : (c : ℕ → Float) (row poles : List Float) (n j : ℕ) (q : Point4D) → ((x : ℕ) → x < j + n → getD row x nan ≡ c x) → weighed q n j row poles ≡ summed c q n j poles
+weighed-is : (c : ℕ → Float) (row poles : List Float) (n j : ℕ) (q : Point4D) → ((x : ℕ) → x < j + n → getD row x nan ≡ c x)
+    → weighed q n j row poles ≡ summed c q n j poles
 unfolding weighed summed
 weighed-is c row poles zero j q h = refl
 weighed-is c row poles (suc n) j q h = rw (h j (omega arith)) (weighed-is c row poles n (suc j) _ (λ x k. h x (omega arith)))
@@ -131,4 +137,5 @@ point-is p u near poles k small =
     weighed-is (coefficient (λ r. alphaOf p u near (endOf p u near k r) r) p 0) (coefficients p u near k) poles (p + 1) 0 nothing
     (λ x h. let z : 27 * 0 + x ≡ x = omega arith in
     ap (λ y. getD (coefficients p u near k) y nan) (sym z)
-    ∙ all (λ r. alphaOf p u near (endOf p u near k r) r) p small p 0 (units 702 0) (omega arith) (start (λ r. alphaOf p u near (endOf p u near k r) r) p small) .1 0 x (omega arith) (omega arith))
+    ∙ all (λ r. alphaOf p u near (endOf p u near k r) r) p small p 0 (units 702 0) (omega arith)
+    (start (λ r. alphaOf p u near (endOf p u near k r) r) p small) .1 0 x (omega arith) (omega arith))

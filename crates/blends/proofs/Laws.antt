@@ -20,7 +20,15 @@ level-turn α n m i s s' lt h e =
     let k : m - i ≡ suc (m - (i + 1)) = omega arith in
     let p : length (take (27 * i) s) ≡ 27 * i = length-take-le (27 * i) s h in
     let q : 27 * (i + 1) ≡ length (take (27 * i) s) + 27 = omega arith in
-    rw (k, e, q, take-append-add (take (27 * i) s) (mixes (α i) n (drop (27 * i) s)) 27, drop-append-add (take (27 * i) s) (mixes (α i) n (drop (27 * i) s)) 27, add-one, append-assoc) refl
+    rw (
+      k,
+      e,
+      q,
+      take-append-add (take (27 * i) s) (mixes (α i) n (drop (27 * i) s)) 27,
+      drop-append-add (take (27 * i) s) (mixes (α i) n (drop (27 * i) s)) 27,
+      add-one,
+      append-assoc,
+    ) refl
 
 pub level-done : (α : ℕ → Float) (n m i : ℕ) (s r : List Float) → m ≤ i → take (27 * i) s ++ levelOf α n (m - i) i (drop (27 * i) s) ≡ r → s ≡ r
 unfolding levelOf

@@ -36,7 +36,12 @@ coefficient α (suc r) i (suc x) = cond (ltb x (suc r)) (mixOf (α r i) (coeffic
 -- one turn of `span_bezier`'s sum: m times the pole (a, b, c, d) added
 unfoldable pub added : Point4D → Float → Float → Float → Float → Float → Point4D
 added q m a b c d =
-    record { x = add binary64 (q .x) (mul binary64 m a); y = add binary64 (q .y) (mul binary64 m b); z = add binary64 (q .z) (mul binary64 m c); w = add binary64 (q .w) (mul binary64 m d) }
+    record {
+      x = add binary64 (q .x) (mul binary64 m a);
+      y = add binary64 (q .y) (mul binary64 m b);
+      z = add binary64 (q .z) (mul binary64 m c);
+      w = add binary64 (q .w) (mul binary64 m d);
+    }
 
 -- the sum's start, +0
 abbrev pub nothing : Point4D

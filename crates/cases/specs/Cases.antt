@@ -59,7 +59,12 @@ refused n = record { word = n; counts = []; regions = []; left = [] }
 
 abbrev pub told : Reported → List Float → List Float → Answer
 told (Told w c n) slice ranges =
-    record { word = wordNumber w; counts = c .pairs ∷ c .visits ∷ c .splits ∷ c .settled ∷ c .given ∷ c .left ∷ c .unspent ∷ []; regions = take (n * 10) slice; left = take (c .left * 4) ranges }
+    record {
+      word = wordNumber w;
+      counts = c .pairs ∷ c .visits ∷ c .splits ∷ c .settled ∷ c .given ∷ c .left ∷ c .unspent ∷ [];
+      regions = take (n * 10) slice;
+      left = take (c .left * 4) ranges;
+    }
 told Running slice ranges = refused 21
 told ReportNoRoom slice ranges = refused 19
 
@@ -155,7 +160,11 @@ weighted = pieces
     })
     (ofBits binary64 0x3fd0_0000_0000_0000) (ofBits binary64 0x3ffc_0000_0000_0000)
     (floats (
-    0xc009_c333_3333_3333 ∷ 0x3ffe_9d70_a3d7_0a3d ∷ 0x4000_5999_9999_999a ∷ 0x3fe7_f851_eb85_1eb8 ∷ 0xc014_1999_9999_999a ∷ 0x3ff7_c28f_5c28_f5c3 ∷ 0xbfff_3333_3333_3334 ∷ 0x3fe3_ae14_7ae1_47ae ∷
-    0xc016_3333_3333_3334 ∷ 0x3fd8_f5c2_8f5c_28f8 ∷ 0xc00a_6666_6666_6667 ∷ 0x3fe9_eb85_1eb8_51ec ∷ 0xc012_0000_0000_0000 ∷ 0x3ffd_c28f_5c28_f5c6 ∷ 0xc010_cccc_cccc_cccd ∷ 0x3ff2_3d70_a3d7_0a3e ∷
-    0xc012_0000_0000_0000 ∷ 0x3ffd_c28f_5c28_f5c6 ∷ 0xc010_cccc_cccc_cccd ∷ 0x3ff2_3d70_a3d7_0a3e ∷ 0xc00b_9999_9999_9999 ∷ 0x400a_a3d7_0a3d_70a6 ∷ 0xc014_6666_6666_6666 ∷ 0x3ff7_851e_b851_eb86 ∷
-    0xbfea_6666_6666_6664 ∷ 0x401d_75c2_8f5c_28f7 ∷ 0xc016_3333_3333_3333 ∷ 0x3ffe_f5c2_8f5c_28f7 ∷ 0x3ff8_9999_9999_999a ∷ 0x4025_90a3_d70a_3d71 ∷ 0xc01a_1999_9999_999a ∷ 0x4001_8a3d_70a3_d70b ∷ []))
+    0xc009_c333_3333_3333 ∷ 0x3ffe_9d70_a3d7_0a3d ∷ 0x4000_5999_9999_999a ∷ 0x3fe7_f851_eb85_1eb8 ∷
+    0xc014_1999_9999_999a ∷ 0x3ff7_c28f_5c28_f5c3 ∷ 0xbfff_3333_3333_3334 ∷ 0x3fe3_ae14_7ae1_47ae ∷
+    0xc016_3333_3333_3334 ∷ 0x3fd8_f5c2_8f5c_28f8 ∷ 0xc00a_6666_6666_6667 ∷ 0x3fe9_eb85_1eb8_51ec ∷
+    0xc012_0000_0000_0000 ∷ 0x3ffd_c28f_5c28_f5c6 ∷ 0xc010_cccc_cccc_cccd ∷ 0x3ff2_3d70_a3d7_0a3e ∷
+    0xc012_0000_0000_0000 ∷ 0x3ffd_c28f_5c28_f5c6 ∷ 0xc010_cccc_cccc_cccd ∷ 0x3ff2_3d70_a3d7_0a3e ∷
+    0xc00b_9999_9999_9999 ∷ 0x400a_a3d7_0a3d_70a6 ∷ 0xc014_6666_6666_6666 ∷ 0x3ff7_851e_b851_eb86 ∷
+    0xbfea_6666_6666_6664 ∷ 0x401d_75c2_8f5c_28f7 ∷ 0xc016_3333_3333_3333 ∷ 0x3ffe_f5c2_8f5c_28f7 ∷
+    0x3ff8_9999_9999_999a ∷ 0x4025_90a3_d70a_3d71 ∷ 0xc01a_1999_9999_999a ∷ 0x4001_8a3d_70a3_d70b ∷ []))

@@ -56,11 +56,13 @@ pub last-is : (l : List Float) → 3 ≤ length l → pointAt l ((length l / 3 -
 last-is l h = rw (length-vectors l) (sym (vectors-at l (length l / 3 - 1) (omega arith)))
 
 -- ---- a loop that tests each point
-pub every-point-on : (t : Vector3D → Bool) (l : List Float) (i : ℕ) → i + 3 ≤ length l → t (pointAt l i) ≡ true → every t (vectors (drop (i + 3) l)) ≡ every t (vectors (drop i l))
+pub every-point-on : (t : Vector3D → Bool) (l : List Float) (i : ℕ) → i + 3 ≤ length l → t (pointAt l i) ≡ true
+    → every t (vectors (drop (i + 3) l)) ≡ every t (vectors (drop i l))
 unfolding every
 every-point-on t l i h e = rw (vectors-on l i h, e) refl
 
-pub every-point-stop : (t : Vector3D → Bool) (l : List Float) (i : ℕ) (r : Bool) → i + 3 ≤ length l → t (pointAt l i) ≡ false → every t (vectors (drop i l)) ≡ r → false ≡ r
+pub every-point-stop : (t : Vector3D → Bool) (l : List Float) (i : ℕ) (r : Bool) → i + 3 ≤ length l → t (pointAt l i) ≡ false
+    → every t (vectors (drop i l)) ≡ r → false ≡ r
 unfolding every
 every-point-stop t l i r h e k = rw (vectors-on l i h, e) at k
 
@@ -74,7 +76,8 @@ pub apart-along-is : (axis : Vector3D) (gap n : Float) (p q : List Float) (a b :
 unfolding apartAlong
 apart-along-is axis gap n p q a b e f g = rw (e, f, g) refl
 
-pub between-is : (v b a : Vector3D) (p q : List Float) → v ≡ subOf b a → b ≡ pointAt q 0 → a ≡ pointAt p 0 → 3 ≤ length p → 3 ≤ length q → v ≡ subOf (firstOf q) (firstOf p)
+pub between-is : (v b a : Vector3D) (p q : List Float) → v ≡ subOf b a → b ≡ pointAt q 0 → a ≡ pointAt p 0 → 3 ≤ length p → 3 ≤ length q
+    → v ≡ subOf (firstOf q) (firstOf p)
 between-is v b a p q e f g h k = e ∙ ap (λ z. subOf z a) (f ∙ first-is q k) ∙ ap (subOf (firstOf q)) (g ∙ first-is p h)
 
 module _ (normal ca cb : Vector3D) (gap : Float) (p q : List Float) where
@@ -86,11 +89,13 @@ module _ (normal ca cb : Vector3D) (gap : Float) (p q : List Float) where
   unfolding apartByNormal
   second-axis h k = rw (h, k) refl
 
-  pub third-axis : apartAlong normal gap p q ≡ false → apartAlong (crossOf ca normal) gap p q ≡ false → apartAlong (crossOf cb normal) gap p q ≡ apartByNormal normal ca cb gap p q
+  pub third-axis : apartAlong normal gap p q ≡ false → apartAlong (crossOf ca normal) gap p q ≡ false
+      → apartAlong (crossOf cb normal) gap p q ≡ apartByNormal normal ca cb gap p q
   unfolding apartByNormal
   third-axis h k = rw (h, k) refl
 
-  pub separated-is : (between : Vector3D) → ca ≡ chordOf p → cb ≡ chordOf q → between ≡ subOf (firstOf q) (firstOf p) → normal ≡ normalOf ca cb between → apartByNormal normal ca cb gap p q ≡ separatedOf gap p q
+  pub separated-is : (between : Vector3D) → ca ≡ chordOf p → cb ≡ chordOf q → between ≡ subOf (firstOf q) (firstOf p)
+      → normal ≡ normalOf ca cb between → apartByNormal normal ca cb gap p q ≡ separatedOf gap p q
   unfolding separatedOf
   separated-is between e f g h = rw (h, e, f, g) refl
 
@@ -103,11 +108,13 @@ module _ (origin axis : Vector3D) (gap n : Float) (p q : List Float) (e : n ≡ 
   unfolding alongAxis
   off-first h k = rw (rw e at h, rw e at k) refl
 
-  pub off-second : isLength n ≡ true → nearLine origin axis (mul binary64 gap n) p ≡ true → nearLine origin axis (mul binary64 gap n) q ≡ false → Not ≡ alongAxis origin axis gap p q
+  pub off-second : isLength n ≡ true → nearLine origin axis (mul binary64 gap n) p ≡ true → nearLine origin axis (mul binary64 gap n) q ≡ false
+      → Not ≡ alongAxis origin axis gap p q
   unfolding alongAxis
   off-second h k l = rw (rw e at h, rw e at k, rw e at l) refl
 
-  pub all-near : isLength n ≡ true → nearLine origin axis (mul binary64 gap n) p ≡ true → nearLine origin axis (mul binary64 gap n) q ≡ true → Axis (axis .x) (axis .y) (axis .z) ≡ alongAxis origin axis gap p q
+  pub all-near : isLength n ≡ true → nearLine origin axis (mul binary64 gap n) p ≡ true → nearLine origin axis (mul binary64 gap n) q ≡ true
+      → Axis (axis .x) (axis .y) (axis .z) ≡ alongAxis origin axis gap p q
   unfolding alongAxis
   all-near h k l = rw (rw e at h, rw e at k, rw e at l) refl
 
@@ -120,7 +127,8 @@ module _ (gap : Float) (p q : List Float) (ca cb : Vector3D) (m n : Float) (ea :
   unfolding alongOneLine
   along-second h o f = rw (f, eb) (rw (rw (em, en, ea, eb) at h) refl)
 
-pub line-verdict : (gap : Float) (p q : List Float) (along : Along) (x y z : Float) (t : Bool) → along ≡ Axis x y z → t ≡ apartAlong (record { x = x; y = y; z = z }) gap p q
+pub line-verdict : (gap : Float) (p q : List Float) (along : Along) (x y z : Float) (t : Bool) → along ≡ Axis x y z
+    → t ≡ apartAlong (record { x = x; y = y; z = z }) gap p q
     → cond t Settled Unseparated ≡ lineVerdict gap p q along
 line-verdict gap p q along x y z t e f = rw (e, f) refl
 
@@ -130,13 +138,19 @@ measured-verdict : (gap : Float) (first second : List Float)
 unfolding measuredVerdict verdictOf measured boxOf
 measured-verdict gap first second = by (outOfMeasure first) (outOfMeasure second) refl refl where
   by : (t u : Bool) → outOfMeasure first ≡ t → outOfMeasure second ≡ u
-      → measuredVerdict gap (cond t everything (boundingBox (pointsOf first))) (cond u everything (boundingBox (pointsOf second))) (cond t [] (pointsOf first)) (cond u [] (pointsOf second))
+      → measuredVerdict gap (cond t everything (boundingBox (pointsOf first))) (cond u everything (boundingBox (pointsOf second)))
+      (cond t [] (pointsOf first)) (cond u [] (pointsOf second))
       ≡ cond t Unseparated (cond u Unseparated (testsOf gap (boundingBox (pointsOf first)) (boundingBox (pointsOf second)) (pointsOf first) (pointsOf second)))
   by true u e f = refl
   by false true e f = rw (le-ltb (length (pointsOf first)) 3 (omega (arith, points-enough first e))) refl
-  by false false e f = rw (le-ltb (length (pointsOf first)) 3 (omega (arith, points-enough first e)), le-ltb (length (pointsOf second)) 3 (omega (arith, points-enough second f))) refl
+  by false false e f =
+      rw (
+        le-ltb (length (pointsOf first)) 3 (omega (arith, points-enough first e)),
+        le-ltb (length (pointsOf second)) 3 (omega (arith, points-enough second f)),
+      ) refl
 
-pub judged-is : (gap : Float) (first second p q : List Float) (a b : Aabb) (v : Verdict) → p ≡ measured first → q ≡ measured second → a ≡ measuredBox p → b ≡ measuredBox q
+pub judged-is : (gap : Float) (first second p q : List Float) (a b : Aabb) (v : Verdict) → p ≡ measured first → q ≡ measured second
+    → a ≡ measuredBox p → b ≡ measuredBox q
     → v ≡ measuredVerdict gap a b p q → _≡_ {A = Judged} (record { verdict = v; a = a; b = b }) (judgedOf gap first second)
 judged-is gap first second p q a b v ep eq ea eb ev =
     let fa : a ≡ boxOf first = ea ∙ ap measuredBox ep ∙ measured-box first in
@@ -150,13 +164,16 @@ no-or : (x y : Bool) → cond x true y ≡ false → (x ≡ false) × (y ≡ fal
 no-or true y h = absurd (true≢false h)
 no-or false y h = (refl, h)
 
-meet-apart : (axis : Vector3D) (gap a0 a1 b0 b1 : Float) → le zero64 gap ≡ true → apartBy zero64 a0 a1 b0 b1 ≡ false → false ≡ apartBy (mul binary64 gap (normOf axis)) a0 a1 b0 b1
+meet-apart : (axis : Vector3D) (gap a0 a1 b0 b1 : Float) → le zero64 gap ≡ true → apartBy zero64 a0 a1 b0 b1 ≡ false
+    → false ≡ apartBy (mul binary64 gap (normOf axis)) a0 a1 b0 b1
 unfolding apartBy
 meet-apart axis gap a0 a1 b0 b1 u h =
     let w = no-or (lt (add binary64 b1 zero64) a0) (lt (add binary64 a1 zero64) b0) h in
     rw (reach-not-less axis gap b1 a0 u (w .0), reach-not-less axis gap a1 b0 u (w .1)) refl
 
-pub meeting-is : (axis : Vector3D) (gap : Float) (p q : List Float) (a b : Reach) → a ≡ extentOf axis p → b ≡ extentOf axis q → le zero64 gap ≡ true → reachesApart zero64 a b ≡ false → false ≡ apartAlong axis gap p q
+pub meeting-is : (axis : Vector3D) (gap : Float) (p q : List Float) (a b : Reach) → a ≡ extentOf axis p → b ≡ extentOf axis q → le zero64 gap ≡ true
+    → reachesApart zero64 a b ≡ false → false ≡ apartAlong axis gap p q
 unfolding apartAlong
 meeting-is axis gap p q a b f g u h =
-    meet-apart axis gap (a .lo) (a .hi) (b .lo) (b .hi) u h ∙ ap (λ z. reachesApart (mul binary64 gap (normOf axis)) z b) f ∙ ap (λ z. reachesApart (mul binary64 gap (normOf axis)) (extentOf axis p) z) g
+    meet-apart axis gap (a .lo) (a .hi) (b .lo) (b .hi) u h ∙ ap (λ z. reachesApart (mul binary64 gap (normOf axis)) z b) f
+    ∙ ap (λ z. reachesApart (mul binary64 gap (normOf axis)) (extentOf axis p) z) g

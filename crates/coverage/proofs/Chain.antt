@@ -49,7 +49,9 @@ given-small q m N = let b = N .counts .balance in let a = N .allowance in omega 
 -- what the own verdict reads of the top node
 abbrev pub OwnHeld : (q : Asked) → Memory → List (Node (shape q)) → Type 0
 OwnHeld q w [] = Unit {0}
-OwnHeld q w (n ∷ r) = (block (4 * q .width1) (length r) (w .nets1) ≡ netOf1 q n) × (block (4 * q .width2) (length r) (w .nets2) ≡ netOf2 q n) × (block 1 (length r) (w .depths) ≡ depthOf q n)
+OwnHeld q w (n ∷ r) =
+    (block (4 * q .width1) (length r) (w .nets1) ≡ netOf1 q n) × (block (4 * q .width2) (length r) (w .nets2) ≡ netOf2 q n)
+    × (block 1 (length r) (w .depths) ≡ depthOf q n)
 
 -- a start that is long enough holds the search
 pub held-lent : (q : Asked) (m : Search (shape q)) (n : Sizes) (u : Memory) → Numbers q m → Held q m u → Room q (sizes (lend n u)) → Held q m (lend n u)
@@ -63,16 +65,23 @@ held-lent q m n u N H R = record {
 
 held-back : (q : Asked) (m : Search (shape q)) (n : Sizes) (w u : Memory) → Numbers q m → Held q m w → Room q (sizes w) → Held q m (giveBack n w u)
 held-back q m n w u N H R = record {
-  nodes = agree-stored q (pairsOf q + limit) w (giveBack n w u) (m .stack) (agree-back q n w u R) (at-most (shape q) (pairsOf q) (m .stack) (N .counts .steep)) (H .nodes);
-  raw = take-append-le (length (m .given) * 10) (w .raw) (drop (n .raw) (u .raw)) (let g = given-small q m N in fits-in (length (m .given)) (pairsOf q * suc (q .quota)) 10 (length (w .raw)) (omega arith) (R .raw)) ∙ H .raw;
+  nodes =
+      agree-stored q (pairsOf q + limit) w (giveBack n w u) (m .stack) (agree-back q n w u R)
+      (at-most (shape q) (pairsOf q) (m .stack) (N .counts .steep)) (H .nodes);
+  raw =
+      take-append-le (length (m .given) * 10) (w .raw) (drop (n .raw) (u .raw))
+      (let g = given-small q m N in fits-in (length (m .given)) (pairsOf q * suc (q .quota)) 10 (length (w .raw)) (omega arith) (R .raw)) ∙ H .raw;
 }
 
 -- a call on what is lent, and the memory given back
-pub back-sim : (q : Asked) (full : Sizes) (m : Search (shape q)) (n : Sizes) (u : Memory) (o : Outcome) (r : Ruled q) → Inv q full m u → StepSim q o r m (lend n u) → Follows q full (backIn n u o) r
+pub back-sim : (q : Asked) (full : Sizes) (m : Search (shape q)) (n : Sizes) (u : Memory) (o : Outcome) (r : Ruled q) → Inv q full m u
+    → StepSim q o r m (lend n u) → Follows q full (backIn n u o) r
 back-sim q full m n u o r I (unchanged a s e f) = record {
   answer = a;
   state = s ∙ ap (stateOf q) (sym f);
-  inv = subst (λ (x : Search (shape q)). Inv q full x (giveBack n (o .memory) u)) (sym f) (subst (Inv q full m) (sym (ap (λ (w : Memory). giveBack n w u) e ∙ lend-back n u)) I);
+  inv =
+      subst (λ (x : Search (shape q)). Inv q full x (giveBack n (o .memory) u)) (sym f)
+      (subst (Inv q full m) (sym (ap (λ (w : Memory). giveBack n w u) e ∙ lend-back n u)) I);
 }
 back-sim q full m n u o r I (moved a s H z R N) = record {
   answer = a;
@@ -87,12 +96,14 @@ back-sim q full m n u o r I (moved a s H z R N) = record {
 suffices-is : (q : Asked) (full n : Sizes) (u : Memory) → sizes u ≡ full → enough (needed (stateOf q (start q))) (sizes (lend n u)) ≡ suffices q full n
 suffices-is q full n u e = ap (enough (needed (stateOf q (start q)))) (lend-sizes n u ∙ ap (lent n) e)
 
-module _ (q : Asked) (low : (w : ℕ) (l : List Float) → length l ≡ 4 * w → length (q .geometry .lowerNet l) ≡ 4 * w) (upp : (w : ℕ) (l : List Float) → length l ≡ 4 * w → length (q .geometry .upperNet l) ≡ 4 * w) (full : Sizes) where
+module _ (q : Asked) (low : (w : ℕ) (l : List Float) → length l ≡ 4 * w → length (q .geometry .lowerNet l) ≡ 4 * w)
+    (upp : (w : ℕ) (l : List Float) → length l ≡ 4 * w → length (q .geometry .upperNet l) ≡ 4 * w) (full : Sizes) where
   pub step-next : (m : Search (shape q)) (u : Memory) (n : Sizes) (v : Verdict) → Inv q full m u
       → Follows q full (backIn n u (stepOutcome (stateOf q m) (stepDef (q .geometry) (stateOf q m) (lend n u) v))) (stepRule q full v n m)
   step-next m u n v I =
       back-sim q full m n u (stepOutcome (stateOf q m) (stepDef (q .geometry) (stateOf q m) (lend n u) v)) (stepRule q full v n m) I
-      (subst (λ (b : Bool). StepSim q (stepOutcome (stateOf q m) (stepDef (q .geometry) (stateOf q m) (lend n u) v)) (ruleWith q b v m) m (lend n u)) (suffices-is q full n u (I .lengths))
+      (subst (λ (b : Bool). StepSim q (stepOutcome (stateOf q m) (stepDef (q .geometry) (stateOf q m) (lend n u) v)) (ruleWith q b v m) m (lend n u))
+      (suffices-is q full n u (I .lengths))
       (step-sim q low upp m (lend n u) v (I .numbers) (held-lent q m n u (I .numbers) (I .held))))
 
   -- ---- the own verdict
@@ -107,7 +118,8 @@ module _ (q : Asked) (low : (w : ℕ) (l : List Float) → length l ≡ 4 * w �
       (λ (R : RoomOwn q (sizes w)). is-search q (search q (n ∷ r) se gi vi sp un false to) w N (H R .2))
     where
       go : (e s : Bool) → (T e → RoomOwn q (sizes w)) → (RoomOwn q (sizes w) → T s)
-          → cond (e && s) (judgeAt (q .geometry) (suc (length r)) (stateOf q (search q (n ∷ r) se gi vi sp un false to)) w) OwnNoRoom ≡ cond e (testTop q (n ∷ r)) OwnNoRoom
+          → cond (e && s) (judgeAt (q .geometry) (suc (length r)) (stateOf q (search q (n ∷ r) se gi vi sp un false to)) w) OwnNoRoom
+          ≡ cond e (testTop q (n ∷ r)) OwnNoRoom
       go false s f g = refl
       go true false f g = absurd (g (f tt))
       go true true f g = let z = H (f tt) in λ i. Is (q .geometry .clearing (q .gap) (z .0 i) (z .1 i))
@@ -124,7 +136,8 @@ module _ (q : Asked) (low : (w : ℕ) (l : List Float) → length l ≡ 4 * w �
   own-is m u n I =
       own-fields (m .stack) (m .settled) (m .given) (m .visits) (m .splits) (m .unspent) (m .stopped) (m .told) (lend n u) (I .numbers)
       (own-lent (m .stack) n u (at-most (shape q) (pairsOf q) (m .stack) (I .numbers .counts .steep)) (I .held .nodes))
-      ∙ ap (λ (s : Sizes). cond (ended (shape q) m) OwnEnded (cond (enoughOwn (needed (stateOf q (start q))) s) (testTop q (m .stack)) OwnNoRoom)) (lend-sizes n u ∙ ap (lent n) (I .lengths))
+      ∙ ap (λ (s : Sizes). cond (ended (shape q) m) OwnEnded (cond (enoughOwn (needed (stateOf q (start q))) s) (testTop q (m .stack)) OwnNoRoom))
+      (lend-sizes n u ∙ ap (lent n) (I .lengths))
 
 -- ---- report
 regionsIn-flats : (L : List Region) (rest : List Float) → regionsIn (length L) (flats L ++ rest) ≡ L
@@ -132,9 +145,12 @@ regionsIn-flats [] rest = refl
 regionsIn-flats (r ∷ L) rest = ap {B = List Region} (λ (l : List Region). r ∷ l) (regionsIn-flats L rest)
 
 regionsIn-take : (L : List Region) (l : List Float) → take (length L * 10) l ≡ flats L → regionsIn (length L) l ≡ L
-regionsIn-take L l e = ap (regionsIn (length L)) (sym (take-append-drop (length L * 10) l) ∙ ap (λ (z : List Float). z ++ drop (length L * 10) l) e) ∙ regionsIn-flats L (drop (length L * 10) l)
+regionsIn-take L l e =
+    ap (regionsIn (length L)) (sym (take-append-drop (length L * 10) l) ∙ ap (λ (z : List Float). z ++ drop (length L * 10) l) e)
+    ∙ regionsIn-flats L (drop (length L * 10) l)
 
-left-is : (q : Asked) (m : Search (shape q)) (w : Memory) (l : List (Node (shape q))) → AllStored q w l → leftRegions (q .geometry) (stateOf q m) (w .nets1) (w .nets2) (w .ranges) (length l) ≡ map (regionOf (q .geometry) (q .gap)) (reverse l)
+left-is : (q : Asked) (m : Search (shape q)) (w : Memory) (l : List (Node (shape q))) → AllStored q w l
+    → leftRegions (q .geometry) (stateOf q m) (w .nets1) (w .nets2) (w .ranges) (length l) ≡ map (regionOf (q .geometry) (q .gap)) (reverse l)
 left-is q m w [] z = refl
 left-is q m w (n ∷ r) z =
     let f = regionOf (q .geometry) (q .gap) in
@@ -165,7 +181,8 @@ module _ (q : Asked) (m : Search (shape q)) (w : Memory) (N : Numbers q m) (R : 
       let size : length L ≡ length (m .given) + length (m .stack) =
       length-append (map f (m .given)) X ∙ ap (λ (z : ℕ). z + length X) (length-mapped f (m .given)) ∙ ap (λ (z : ℕ). length (m .given) + z) left-count in
       let ten : length L * 10 ≡ length (m .given) * 10 + length (flats X) =
-      ap (λ (z : ℕ). z * 10) size ∙ add-mul (length (m .given)) (length (m .stack)) 10 ∙ ap (λ (z : ℕ). length (m .given) * 10 + z * 10) (sym left-count) ∙ ap (λ (z : ℕ). length (m .given) * 10 + z) (sym (flats-length X)) in
+      ap (λ (z : ℕ). z * 10) size ∙ add-mul (length (m .given)) (length (m .stack)) 10
+      ∙ ap (λ (z : ℕ). length (m .given) * 10 + z * 10) (sym left-count) ∙ ap (λ (z : ℕ). length (m .given) * 10 + z) (sym (flats-length X)) in
       let whole = patch (w .raw) (length (m .given) * 10) (flats X) in
       ap (λ (z : ℕ). regionsIn z whole) (sym size)
       ∙ regionsIn-take L whole (ap (λ (z : ℕ). take z whole) ten ∙ raw-more q (m .given) X (w .raw) given-room (H .raw))
@@ -174,15 +191,22 @@ module _ (q : Asked) (m : Search (shape q)) (w : Memory) (N : Numbers q m) (R : 
 
   write-sim : (slice : List Float)
       → StepSim q (reportOutcome (stateOf q m) (writeReport (q .geometry) (stateOf q m) w slice))
-      (record { answer = reported (Told (wordFor (length (m .given)) (length (m .stack))) (tally q m) (length (merged merging (rawList q m)))) (reportSlice (length (m .given) + length (m .stack)) (merged merging (rawList q m)) slice); search = m })
+      (record {
+        answer = reported (Told (wordFor (length (m .given)) (length (m .stack))) (tally q m) (length (merged merging (rawList q m))))
+            (reportSlice (length (m .given) + length (m .stack)) (merged merging (rawList q m)) slice);
+        search = m;
+      })
       m w
   write-sim slice =
       let X = leftRegions (q .geometry) (stateOf q m) (w .nets1) (w .nets2) (w .ranges) (length (m .stack)) in
       moved
-      (λ i. reported (Told (wordFor (length (m .given)) (length (m .stack))) (counts-tally q m i) (length (merged merging (raws-are i)))) (reportSlice (length (m .given) + length (m .stack)) (merged merging (raws-are i)) slice))
+      (λ i. reported (Told (wordFor (length (m .given)) (length (m .stack))) (counts-tally q m i) (length (merged merging (raws-are i))))
+      (reportSlice (length (m .given) + length (m .stack)) (merged merging (raws-are i)) slice))
       refl
       (record {
-        nodes = agree-stored q (length (m .stack)) w _ (m .stack) (record { net1 = λ k h. refl; net2 = λ k h. refl; ranges = λ k h. refl; depth = λ k h. refl }) (le-refl (length (m .stack))) (H .nodes);
+        nodes =
+            agree-stored q (length (m .stack)) w _ (m .stack)
+            (record { net1 = λ k h. refl; net2 = λ k h. refl; ranges = λ k h. refl; depth = λ k h. refl }) (le-refl (length (m .stack))) (H .nodes);
         raw = take-before (w .raw) (length (m .given) * 10) (flats X) given-room ∙ H .raw;
       })
       (λ i. record {
@@ -190,7 +214,9 @@ module _ (q : Asked) (m : Search (shape q)) (w : Memory) (N : Numbers q m) (R : 
         nets2 = length (w .nets2);
         ranges = length (w .ranges);
         depths = length (w .depths);
-        raw = patch-length (w .raw) (length (m .given) * 10) (flats X) (let a = room-raw in let b = add-mul (length (m .given)) (length (m .stack)) 10 in let c = flats-length X in let d : length X * 10 ≡ length (m .stack) * 10 = ap (λ (z : ℕ). z * 10) left-count in omega arith) i;
+        raw =
+            patch-length (w .raw) (length (m .given) * 10) (flats X) (let a = room-raw in let b = add-mul (length (m .given)) (length (m .stack)) 10
+            in let c = flats-length X in let d : length X * 10 ≡ length (m .stack) * 10 = ap (λ (z : ℕ). z * 10) left-count in omega arith) i;
       })
       R N
 
@@ -199,26 +225,33 @@ reportWith q e slice m =
     cond (ended (shape q) m)
     (cond (e && leb (pairsOf q * suc (q .quota) * 10) (length slice))
     (let raws = rawList q m in
-    reported (Told (wordFor (length (m .given)) (length (m .stack))) (tally q m) (length (merged merging raws))) (reportSlice (length (m .given) + length (m .stack)) (merged merging raws) slice))
+    reported (Told (wordFor (length (m .given)) (length (m .stack))) (tally q m) (length (merged merging raws)))
+    (reportSlice (length (m .given) + length (m .stack)) (merged merging raws) slice))
     (reported ReportNoRoom slice))
     (reported Running slice)
 
 module _ (q : Asked) (full : Sizes) where
   report-ended : (m : Search (shape q)) (w : Memory) (slice : List Float) → Numbers q m → (Room q (sizes w) → Held q m w)
-      → StepSim q (reportOutcome (stateOf q m) (cond (enough (needed (stateOf q (start q))) (sizes w) && leb (pairsOf q * suc (q .quota) * 10) (length slice) && isSearch (stateOf q m) w) (writeReport (q .geometry) (stateOf q m) w slice) (reporting ReportNoRoom w slice)))
+      → StepSim q (reportOutcome (stateOf q m) (cond
+      (enough (needed (stateOf q (start q))) (sizes w) && leb (pairsOf q * suc (q .quota) * 10) (length slice) && isSearch (stateOf q m) w)
+      (writeReport (q .geometry) (stateOf q m) w slice) (reporting ReportNoRoom w slice)))
       (record {
         answer = cond (enough (needed (stateOf q (start q))) (sizes w) && leb (pairsOf q * suc (q .quota) * 10) (length slice))
-            (reported (Told (wordFor (length (m .given)) (length (m .stack))) (tally q m) (length (merged merging (rawList q m)))) (reportSlice (length (m .given) + length (m .stack)) (merged merging (rawList q m)) slice))
+            (reported (Told (wordFor (length (m .given)) (length (m .stack))) (tally q m) (length (merged merging (rawList q m))))
+            (reportSlice (length (m .given) + length (m .stack)) (merged merging (rawList q m)) slice))
             (reported ReportNoRoom slice);
         search = m;
       }) m w
-  report-ended m w slice N H = go (enough (needed (stateOf q (start q))) (sizes w)) (leb (pairsOf q * suc (q .quota) * 10) (length slice)) (isSearch (stateOf q m) w) (room-of q (sizes w)) (λ (R : Room q (sizes w)). is-search q m w N (top-depth q w (m .stack) (H R .nodes)))
+  report-ended m w slice N H =
+      go (enough (needed (stateOf q (start q))) (sizes w)) (leb (pairsOf q * suc (q .quota) * 10) (length slice)) (isSearch (stateOf q m) w)
+      (room-of q (sizes w)) (λ (R : Room q (sizes w)). is-search q m w N (top-depth q w (m .stack) (H R .nodes)))
     where
       go : (e b s : Bool) → (T e → Room q (sizes w)) → (Room q (sizes w) → T s)
           → StepSim q (reportOutcome (stateOf q m) (cond (e && b && s) (writeReport (q .geometry) (stateOf q m) w slice) (reporting ReportNoRoom w slice)))
           (record {
             answer = cond (e && b)
-                (reported (Told (wordFor (length (m .given)) (length (m .stack))) (tally q m) (length (merged merging (rawList q m)))) (reportSlice (length (m .given) + length (m .stack)) (merged merging (rawList q m)) slice))
+                (reported (Told (wordFor (length (m .given)) (length (m .stack))) (tally q m) (length (merged merging (rawList q m))))
+                (reportSlice (length (m .given) + length (m .stack)) (merged merging (rawList q m)) slice))
                 (reported ReportNoRoom slice);
             search = m;
           }) m w
@@ -227,26 +260,37 @@ module _ (q : Asked) (full : Sizes) where
       go true true false f g = absurd (g (f tt))
       go true true true f g = write-sim q m w N (f tt) (H (f tt)) slice
 
-  pub report-fields : (l : List (Node (shape q))) (se : List (Settling (shape q))) (gi : List (Node (shape q))) (vi sp un : ℕ) (st to : Bool) (w : Memory) (slice : List Float)
+  pub report-fields : (l : List (Node (shape q))) (se : List (Settling (shape q))) (gi : List (Node (shape q))) (vi sp un : ℕ) (st to : Bool)
+      (w : Memory) (slice : List Float)
       → Numbers q (search q l se gi vi sp un st to) → (Room q (sizes w) → Held q (search q l se gi vi sp un st to) w)
       → StepSim q (reportOutcome (stateOf q (search q l se gi vi sp un st to)) (reportDef (q .geometry) (stateOf q (search q l se gi vi sp un st to)) w slice))
-      (record { answer = reportWith q (enough (needed (stateOf q (start q))) (sizes w)) slice (search q l se gi vi sp un st to); search = search q l se gi vi sp un st to }) (search q l se gi vi sp un st to) w
+      (record {
+        answer = reportWith q (enough (needed (stateOf q (start q))) (sizes w)) slice (search q l se gi vi sp un st to);
+        search = search q l se gi vi sp un st to;
+      }) (search q l se gi vi sp un st to) w
   report-fields l se gi vi sp un true to w slice N H = report-ended (search q l se gi vi sp un true to) w slice N H
   report-fields [] se gi vi sp un false to w slice N H = report-ended (search q [] se gi vi sp un false to) w slice N H
   report-fields (n ∷ r) se gi vi sp un false to w slice N H = unchanged refl refl refl refl
 
   pub report-next : (m : Search (shape q)) (u : Memory) (n : Sizes) (slice : List Float) → Inv q full m u
-      → Follows q full (backIn n u (reportOutcome (stateOf q m) (reportDef (q .geometry) (stateOf q m) (lend n u) slice))) (record { answer = reportRule q full n slice m; search = m })
+      → Follows q full (backIn n u (reportOutcome (stateOf q m) (reportDef (q .geometry) (stateOf q m) (lend n u) slice)))
+      (record { answer = reportRule q full n slice m; search = m })
   report-next m u n slice I =
-      back-sim q full m n u (reportOutcome (stateOf q m) (reportDef (q .geometry) (stateOf q m) (lend n u) slice)) (record { answer = reportRule q full n slice m; search = m }) I
-      (subst (λ (b : Bool). StepSim q (reportOutcome (stateOf q m) (reportDef (q .geometry) (stateOf q m) (lend n u) slice)) (record { answer = reportWith q b slice m; search = m }) m (lend n u)) (suffices-is q full n u (I .lengths))
-      (report-fields (m .stack) (m .settled) (m .given) (m .visits) (m .splits) (m .unspent) (m .stopped) (m .told) (lend n u) slice (I .numbers) (held-lent q m n u (I .numbers) (I .held))))
+      back-sim q full m n u (reportOutcome (stateOf q m) (reportDef (q .geometry) (stateOf q m) (lend n u) slice))
+      (record { answer = reportRule q full n slice m; search = m }) I
+      (subst (λ (b : Bool). StepSim q (reportOutcome (stateOf q m) (reportDef (q .geometry) (stateOf q m) (lend n u) slice))
+      (record { answer = reportWith q b slice m; search = m }) m (lend n u)) (suffices-is q full n u (I .lengths))
+      (report-fields (m .stack) (m .settled) (m .given) (m .visits) (m .splits) (m .unspent) (m .stopped) (m .told) (lend n u) slice (I .numbers)
+      (held-lent q m n u (I .numbers) (I .held))))
 
 -- ---- any call, and any list of calls
-module _ (q : Asked) (low : (w : ℕ) (l : List Float) → length l ≡ 4 * w → length (q .geometry .lowerNet l) ≡ 4 * w) (upp : (w : ℕ) (l : List Float) → length l ≡ 4 * w → length (q .geometry .upperNet l) ≡ 4 * w) (full : Sizes) where
+module _ (q : Asked) (low : (w : ℕ) (l : List Float) → length l ≡ 4 * w → length (q .geometry .lowerNet l) ≡ 4 * w)
+    (upp : (w : ℕ) (l : List Float) → length l ≡ 4 * w → length (q .geometry .upperNet l) ≡ 4 * w) (full : Sizes) where
   pub hear-inv : (v : Verdict) (m : Search (shape q)) (u : Memory) → Inv q full m u → Inv q full (hear (shape q) v m) u
   hear-inv v m u I = record {
-    numbers = record { counts = record { balance = I .numbers .counts .balance; steep = I .numbers .counts .steep }; allowance = I .numbers .allowance; visited = I .numbers .visited };
+    numbers =
+        record
+        { counts = record { balance = I .numbers .counts .balance; steep = I .numbers .counts .steep }; allowance = I .numbers .allowance; visited = I .numbers .visited };
     held = record { nodes = I .held .nodes; raw = I .held .raw };
     lengths = I .lengths;
   }
@@ -263,7 +307,9 @@ module _ (q : Asked) (low : (w : ℕ) (l : List Float) → length l ≡ 4 * w �
 
   pub call-next : (c : Call) (m : Search (shape q)) (u : Memory) → Inv q full m u → Follows q full (call (q .geometry) c (stateOf q m) u) (callRule q full c m)
   call-next (step v n) m u I = step-next q low upp full m u n v I
-  call-next (own n) m u I = record { answer = ap judged (own-is q low upp full m u n I); state = heard-state (ownRule q full n m) m; inv = heard-next (ownRule q full n m) m u I }
+  call-next (own n) m u I =
+      record
+      { answer = ap judged (own-is q low upp full m u n I); state = heard-state (ownRule q full n m) m; inv = heard-next (ownRule q full n m) m u I }
   call-next (report n slice) m u I = report-next q full m u n slice I
 
   pub record Chained (r : Ran) (a : RuledAll q) : Type 0 where
@@ -271,15 +317,18 @@ module _ (q : Asked) (low : (w : ℕ) (l : List Float) → length l ≡ 4 * w �
     pub state : r .state ≡ stateOf q (a .search)
     pub inv : Inv q full (a .search) (r .memory)
 
-  pub chain : (cs : List Call) (m : Search (shape q)) (x : State) (u : Memory) → x ≡ stateOf q m → Inv q full m u → Chained (runAll (q .geometry) cs x u) (ruleAll q full cs m)
+  pub chain : (cs : List Call) (m : Search (shape q)) (x : State) (u : Memory) → x ≡ stateOf q m → Inv q full m u
+      → Chained (runAll (q .geometry) cs x u) (ruleAll q full cs m)
   chain [] m x u e I = record { answers = refl; state = e; inv = I }
   chain (c ∷ cs) m x u e I =
       subst (λ (y : State). Chained (runAll (q .geometry) (c ∷ cs) y u) (ruleAll q full (c ∷ cs) m)) (sym e)
       (go (call-next c m u I) (chain cs (callRule q full c m .search) (call (q .geometry) c (stateOf q m) u .state) (call (q .geometry) c (stateOf q m) u .memory)))
     where
       go : Follows q full (call (q .geometry) c (stateOf q m) u) (callRule q full c m)
-          → (call (q .geometry) c (stateOf q m) u .state ≡ stateOf q (callRule q full c m .search) → Inv q full (callRule q full c m .search) (call (q .geometry) c (stateOf q m) u .memory)
-          → Chained (runAll (q .geometry) cs (call (q .geometry) c (stateOf q m) u .state) (call (q .geometry) c (stateOf q m) u .memory)) (ruleAll q full cs (callRule q full c m .search)))
+          → (call (q .geometry) c (stateOf q m) u .state ≡ stateOf q (callRule q full c m .search)
+          → Inv q full (callRule q full c m .search) (call (q .geometry) c (stateOf q m) u .memory)
+          → Chained (runAll (q .geometry) cs (call (q .geometry) c (stateOf q m) u .state) (call (q .geometry) c (stateOf q m) u .memory))
+          (ruleAll q full cs (callRule q full c m .search)))
           → Chained (runAll (q .geometry) (c ∷ cs) (stateOf q m) u) (ruleAll q full (c ∷ cs) m)
       go h ih =
           let z = ih (h .state) (h .inv) in

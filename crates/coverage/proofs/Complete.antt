@@ -57,7 +57,8 @@ rest q m = 2 * m .unspent + length (m .stack)
 next-of : (a b : Stepped) → _≡_ {A = Answer} (stepped a) (stepped b) → a ≡ b
 next-of a b e = cc
 
-module _ (q : Asked) (low : (w : ℕ) (l : List Float) → length l ≡ 4 * w → length (q .geometry .lowerNet l) ≡ 4 * w) (upp : (w : ℕ) (l : List Float) → length l ≡ 4 * w → length (q .geometry .upperNet l) ≡ 4 * w)
+module _ (q : Asked) (low : (w : ℕ) (l : List Float) → length l ≡ 4 * w → length (q .geometry .lowerNet l) ≡ 4 * w)
+    (upp : (w : ℕ) (l : List Float) → length l ≡ 4 * w → length (q .geometry .upperNet l) ≡ 4 * w)
     (full : Sizes) (room : enough (needed (stateOf q (start q))) full ≡ true) where
   record Looped (o : Stepping) : Type 0 where
     last : Search (shape q)
@@ -68,7 +69,8 @@ module _ (q : Asked) (low : (w : ℕ) (l : List Float) → length l ≡ 4 * w �
     finished : T (ended (shape q) last)
 
   -- a step on the whole memory
-  after-sim : (m : Search (shape q)) (u : Memory) (o : Outcome) (r : Ruled q) → Inv q full m u → StepSim q o r m u → (o .answer ≡ r .answer) × Inv q full (r .search) (o .memory)
+  after-sim : (m : Search (shape q)) (u : Memory) (o : Outcome) (r : Ruled q) → Inv q full m u → StepSim q o r m u
+      → (o .answer ≡ r .answer) × Inv q full (r .search) (o .memory)
   after-sim m u o r I (unchanged a s e f) = (a, subst (λ (x : Search (shape q)). Inv q full x (o .memory)) (sym f) (subst (Inv q full m) (sym e) I))
   after-sim m u o r I (moved a s H z R N) = (a, record { numbers = N; held = H; lengths = z ∙ I .lengths })
 
@@ -85,22 +87,27 @@ module _ (q : Asked) (low : (w : ℕ) (l : List Float) → length l ≡ 4 * w �
 
   lower-rest : (v : Verdict) (n : Node (shape q)) (r : List (Node (shape q))) (se : List (Settling (shape q))) (gi : List (Node (shape q))) (vi sp un k : ℕ) (to : Bool)
       → rest q (search q (n ∷ r) se gi vi sp un false to) < suc k
-      → T (ended (shape q) (advance (shape q) v (search q (n ∷ r) se gi vi sp un false to))) ⊎ (rest q (advance (shape q) v (search q (n ∷ r) se gi vi sp un false to)) < k)
+      → T (ended (shape q) (advance (shape q) v (search q (n ∷ r) se gi vi sp un false to))) ⊎
+      (rest q (advance (shape q) v (search q (n ∷ r) se gi vi sp un false to)) < k)
   lower-rest Settled n r se gi vi sp un k to h = inr (omega arith)
   lower-rest Unseparated n r se gi vi sp un k to h = inr (omega arith)
   lower-rest Split n r se gi vi sp un k to h = go (leb limit (depth (shape q) n)) un h
     where
       go : (b : Bool) (j : ℕ) → 2 * j + suc (length r) < suc k
-          → T (ended (shape q) (divide (shape q) b j n r (search q (n ∷ r) se gi vi sp j false to))) ⊎ (rest q (divide (shape q) b j n r (search q (n ∷ r) se gi vi sp j false to)) < k)
+          → T (ended (shape q) (divide (shape q) b j n r (search q (n ∷ r) se gi vi sp j false to))) ⊎
+          (rest q (divide (shape q) b j n r (search q (n ∷ r) se gi vi sp j false to)) < k)
       go true j h = inr (omega arith)
       go false zero h = inl tt
       go false (suc j) h = inr (omega arith)
 
   -- one turn, and the rest of the loop
-  turn : (k : ℕ) → ((m : Search (shape q)) (u : Memory) → Inv q full m u → Ok q m → AllOwn q (m .settled) → T (ended (shape q) m) ⊎ (rest q m < k) → Looped (runFor (q .geometry) k (stateOf q m) u))
+  turn : (k : ℕ)
+      → ((m : Search (shape q)) (u : Memory) → Inv q full m u → Ok q m → AllOwn q (m .settled) → T (ended (shape q) m) ⊎ (rest q m < k)
+      → Looped (runFor (q .geometry) k (stateOf q m) u))
       → (l : List (Node (shape q))) (se : List (Settling (shape q))) (gi : List (Node (shape q))) (vi sp un : ℕ) (st to : Bool) (u : Memory)
       → Inv q full (search q l se gi vi sp un st to) u → Ok q (search q l se gi vi sp un st to) → AllOwn q se
-      → T (ended (shape q) (search q l se gi vi sp un st to)) ⊎ (rest q (search q l se gi vi sp un st to) < suc k) → Looped (runFor (q .geometry) (suc k) (stateOf q (search q l se gi vi sp un st to)) u)
+      → T (ended (shape q) (search q l se gi vi sp un st to)) ⊎ (rest q (search q l se gi vi sp un st to) < suc k)
+      → Looped (runFor (q .geometry) (suc k) (stateOf q (search q l se gi vi sp un st to)) u)
   turn k go l se gi vi sp un true to u I K O h = record { last = search q l se gi vi sp un true to; answer = refl; inv = I; ok = K; own = O; finished = tt }
   turn k go [] se gi vi sp un false to u I K O h = record { last = search q [] se gi vi sp un false to; answer = refl; inv = I; ok = K; own = O; finished = tt }
   turn k go (n ∷ r) se gi vi sp un false to u I K O (inl t) = absurd t
@@ -117,13 +124,16 @@ module _ (q : Asked) (low : (w : ℕ) (l : List Float) → length l ≡ 4 * w �
       let e = ap (enough (needed (stateOf q (start q)))) (I .lengths) ∙ room in
       let asked : ownDef G x u ≡ Is v = own-fields q low upp full (n ∷ r) se gi vi sp un false to u (I .numbers) (λ R. (S .0 .net1, S .0 .net2, S .0 .depth))
       ∙ ap (λ (b : Bool). cond b (Is v) Rattle.search.specs.declared.Own.the-variants.NoRoom) (enough-own (needed (stateOf q (start q))) (sizes u) e) in
-      let z = after-sim m1 u (stepOutcome x o) (ruleWith q true v m1) I1 (subst (λ (b : Bool). StepSim q (stepOutcome x o) (ruleWith q b v m1) m1 u) e (step-sim q low upp m1 u v (I1 .numbers) (λ R. I1 .held))) in
+      let z = after-sim m1 u (stepOutcome x o) (ruleWith q true v m1) I1
+      (subst (λ (b : Bool). StepSim q (stepOutcome x o) (ruleWith q b v m1) m1 u) e (step-sim q low upp m1 u v (I1 .numbers) (λ R. I1 .held))) in
       let a : o .answer ≡ Next (stateOf q m2) = next-of (o .answer) (Next (stateOf q m2)) (z .0) in
       let p : runFor G (suc k) x u ≡ runFor G k (stateOf q m2) (o .memory)
       = (λ i. turned (runFor G k) x (carriedOut G x u (asked i))) ∙ (λ i. turned (runFor G k) x (stepping (a i) (o .memory))) in
-      subst Looped (sym p) (go m2 (o .memory) (z .1) (ok-advance q v m1 (ok-hear q v m0 refl K)) (settled-own v n r se gi vi sp un O) (lower-rest v n r se gi vi sp un k (isSettle (shape q) v) h))
+      subst Looped (sym p) (go m2 (o .memory) (z .1) (ok-advance q v m1 (ok-hear q v m0 refl K)) (settled-own v n r se gi vi sp un O)
+      (lower-rest v n r se gi vi sp un k (isSettle (shape q) v) h))
 
-  loop : (k : ℕ) (m : Search (shape q)) (u : Memory) → Inv q full m u → Ok q m → AllOwn q (m .settled) → T (ended (shape q) m) ⊎ (rest q m < k) → Looped (runFor (q .geometry) k (stateOf q m) u)
+  loop : (k : ℕ) (m : Search (shape q)) (u : Memory) → Inv q full m u → Ok q m → AllOwn q (m .settled) → T (ended (shape q) m) ⊎ (rest q m < k)
+      → Looped (runFor (q .geometry) k (stateOf q m) u)
   loop zero m u I K O (inl t) = record { last = m; answer = refl; inv = I; ok = K; own = O; finished = t }
   loop zero m u I K O (inr h) = absurd (omega arith)
   loop (suc k) m u I K O h = turn k (loop k) (m .stack) (m .settled) (m .given) (m .visits) (m .splits) (m .unspent) (m .stopped) (m .told) u I K O h
@@ -132,10 +142,13 @@ module _ (q : Asked) (low : (w : ℕ) (l : List Float) → length l ≡ 4 * w �
   from-start u F I = loop (2 * start q .unspent + length (start q .stack) + 1) (start q) u I (ok-start q F) tt (inr (omega arith))
 
 -- ---- the word
-told-word : (G : Geometry) (x : State) (u : Memory) (slice : List Float) (w : Word) (c : Counts) (k : ℕ) → reportDef G x u slice .answer ≡ Told w c k → wordFor (x .given) (x .waiting) ≡ w
+told-word : (G : Geometry) (x : State) (u : Memory) (slice : List Float) (w : Word) (c : Counts) (k : ℕ) → reportDef G x u slice .answer ≡ Told w c k
+    → wordFor (x .given) (x .waiting) ≡ w
 told-word G x u slice w c k e = go (over x) (enough (needed x) (sizes u) && leb (x .pairs * suc (x .quota) * 10) (length slice) && isSearch x u) e
   where
-    go : (a b : Bool) → cond {A = Reporting} a (cond b (writeReport G x u slice) (reporting ReportNoRoom u slice)) (reporting Running u slice) .answer ≡ Told w c k → wordFor (x .given) (x .waiting) ≡ w
+    go : (a b : Bool)
+        → cond {A = Reporting} a (cond b (writeReport G x u slice) (reporting ReportNoRoom u slice)) (reporting Running u slice) .answer ≡ Told w c k
+        → wordFor (x .given) (x .waiting) ≡ w
     go true true e = cc
     go true false e = absurd (let z : _≡_ {A = ℕ} 0 1 = cc in omega arith)
     go false b e = absurd (let z : _≡_ {A = ℕ} 0 1 = cc in omega arith)
@@ -148,7 +161,8 @@ all-pass : (q : Asked) (l : List (Settling (shape q))) → All (Cleared q) l →
 all-pass q [] c o = tt
 all-pass q (e ∷ l) c o = (c .0 (o .0), all-pass q l (c .1) (o .1))
 
-in-nodes : (q : Asked) (s t : Float) (l : List (Settling (shape q))) → Any (λ (e : Settling (shape q)). InNode (shape q) s t (e .node)) l → Any (InNode (shape q) s t) (map (λ (e : Settling (shape q)). e .node) l)
+in-nodes : (q : Asked) (s t : Float) (l : List (Settling (shape q))) → Any (λ (e : Settling (shape q)). InNode (shape q) s t (e .node)) l
+    → Any (InNode (shape q) s t) (map (λ (e : Settling (shape q)). e .node) l)
 in-nodes q s t [] h = h
 in-nodes q s t (e ∷ l) (inl x) = inl x
 in-nodes q s t (e ∷ l) (inr y) = inr (in-nodes q s t l y)
@@ -160,7 +174,8 @@ clear-all q m K O g l = record {
   held = λ s t a b. by s t (K .covered s t a b);
 }
   where
-    by : (s t : Float) → Covered (shape q) (pieces1 q) (pieces2 q) m s t → SetApart (shape q) (pieces1 q) (pieces2 q) s t ⊎ Any (InNode (shape q) s t) (map (λ (e : Settling (shape q)). e .node) (m .settled))
+    by : (s t : Float) → Covered (shape q) (pieces1 q) (pieces2 q) m s t
+        → SetApart (shape q) (pieces1 q) (pieces2 q) s t ⊎ Any (InNode (shape q) s t) (map (λ (e : Settling (shape q)). e .node) (m .settled))
     by s t (byBoxes h) = inl h
     by s t (bySettled h) = inr (in-nodes q s t (m .settled) h)
     by s t (byGiven h) = absurd (none-in (InNode (shape q) s t) (m .given) g h)
@@ -177,19 +192,26 @@ sim-answer : (q : Asked) (o : Outcome) (r : Ruled q) (m : Search (shape q)) (w :
 sim-answer q o r m w (unchanged a s e f) = a
 sim-answer q o r m w (moved a s H z R N) = a
 
-module _ (q : Asked) (full : Sizes) (room : enough (needed (stateOf q (start q))) full ≡ true) (m : Search (shape q)) (w : Memory) (I : Inv q full m w) (K : Ok q m) (O : AllOwn q (m .settled)) (E : T (ended (shape q) m))
+module _ (q : Asked) (full : Sizes) (room : enough (needed (stateOf q (start q))) full ≡ true) (m : Search (shape q)) (w : Memory)
+    (I : Inv q full m w) (K : Ok q m) (O : AllOwn q (m .settled)) (E : T (ended (shape q) m))
     (slice : List Float) (fits : leb (pairsOf q * suc (q .quota) * 10) (length slice) ≡ true) where
   told-all : _≡_ {A = Answer} (reported (reportDef (q .geometry) (stateOf q m) w slice .answer) (reportDef (q .geometry) (stateOf q m) w slice .slice))
-      (reported (Told (wordFor (length (m .given)) (length (m .stack))) (tally q m) (length (merged merging (rawList q m)))) (reportSlice (length (m .given) + length (m .stack)) (merged merging (rawList q m)) slice))
+      (reported (Told (wordFor (length (m .given)) (length (m .stack))) (tally q m) (length (merged merging (rawList q m))))
+      (reportSlice (length (m .given) + length (m .stack)) (merged merging (rawList q m)) slice))
   told-all =
       let o = reportOutcome (stateOf q m) (reportDef (q .geometry) (stateOf q m) w slice) in
       let S = report-fields q full (m .stack) (m .settled) (m .given) (m .visits) (m .splits) (m .unspent) (m .stopped) (m .told) w slice (I .numbers) (λ R. I .held) in
       sim-answer q o (record { answer = reportWith q (enough (needed (stateOf q (start q))) (sizes w)) slice m; search = m }) m w S
-      ∙ go (ended (shape q) m) (enough (needed (stateOf q (start q))) (sizes w)) (leb (pairsOf q * suc (q .quota) * 10) (length slice)) E (ap (enough (needed (stateOf q (start q)))) (I .lengths) ∙ room) fits
+      ∙ go (ended (shape q) m) (enough (needed (stateOf q (start q))) (sizes w)) (leb (pairsOf q * suc (q .quota) * 10) (length slice)) E
+      (ap (enough (needed (stateOf q (start q)))) (I .lengths) ∙ room) fits
     where
       go : (a b c : Bool) → T a → b ≡ true → c ≡ true
-          → cond {A = Answer} a (cond (b && c) (reported (Told (wordFor (length (m .given)) (length (m .stack))) (tally q m) (length (merged merging (rawList q m)))) (reportSlice (length (m .given) + length (m .stack)) (merged merging (rawList q m)) slice)) (reported ReportNoRoom slice)) (reported Running slice)
-          ≡ reported (Told (wordFor (length (m .given)) (length (m .stack))) (tally q m) (length (merged merging (rawList q m)))) (reportSlice (length (m .given) + length (m .stack)) (merged merging (rawList q m)) slice)
+          → cond {A = Answer} a (cond (b && c) (reported
+          (Told (wordFor (length (m .given)) (length (m .stack))) (tally q m) (length (merged merging (rawList q m))))
+          (reportSlice (length (m .given) + length (m .stack)) (merged merging (rawList q m)) slice)) (reported ReportNoRoom slice))
+          (reported Running slice)
+          ≡ reported (Told (wordFor (length (m .given)) (length (m .stack))) (tally q m) (length (merged merging (rawList q m))))
+          (reportSlice (length (m .given) + length (m .stack)) (merged merging (rawList q m)) slice)
       go true true true t e f = refl
       go true true false t e f = absurd (false≢true f)
       go true false c t e f = absurd (false≢true e)
@@ -202,7 +224,10 @@ module _ (q : Asked) (full : Sizes) (room : enough (needed (stateOf q (start q))
     counts = tally q m;
     regions = length (merged merging (rawList q m));
     told = same-answer _ _ _ _ told-all;
-    good = subst (λ (l : List Float). GoodReport q m (wordFor (length (m .given)) (length (m .stack))) (tally q m) (length (merged merging (rawList q m))) l) (sym (same-slice _ _ _ _ told-all)) (good-report q m slice K E);
+    good =
+        subst
+        (λ (l : List Float). GoodReport q m (wordFor (length (m .given)) (length (m .stack))) (tally q m) (length (merged merging (rawList q m))) l)
+        (sym (same-slice _ _ _ _ told-all)) (good-report q m slice K E);
     settled = each (m .settled) (K .cleared) O;
   }
     where
@@ -214,8 +239,10 @@ module _ (q : Asked) (full : Sizes) (room : enough (needed (stateOf q (start q))
 abbrev Claims : (q : Asked) → State → Memory → Type 0
 Claims q x u =
     Ends (runDef (q .geometry) x u)
-    × ((y : State) → runDef (q .geometry) x u .answer ≡ Next y → (slice : List Float) (c : Counts) (k : ℕ) → reportDef (q .geometry) y (runDef (q .geometry) x u .memory) slice .answer ≡ Told Complete c k → Clear q)
-    × ((y : State) → runDef (q .geometry) x u .answer ≡ Next y → (slice : List Float) → x .pairs * suc (x .quota) * 10 ≤ length slice → Reports q (reportDef (q .geometry) y (runDef (q .geometry) x u .memory) slice))
+    × ((y : State) → runDef (q .geometry) x u .answer ≡ Next y → (slice : List Float) (c : Counts) (k : ℕ)
+    → reportDef (q .geometry) y (runDef (q .geometry) x u .memory) slice .answer ≡ Told Complete c k → Clear q)
+    × ((y : State) → runDef (q .geometry) x u .answer ≡ Next y → (slice : List Float) → x .pairs * suc (x .quota) * 10 ≤ length slice
+    → Reports q (reportDef (q .geometry) y (runDef (q .geometry) x u .memory) slice))
 
 same-next : (x y : State) → Next x ≡ Next y → x ≡ y
 same-next x y e = cc
@@ -223,7 +250,8 @@ same-next x y e = cc
 module _ (q : Asked) (u : Memory) (F : Fine q) (room : T (enough (needed (stateOf q (start q))) (sizes u))) where
   pub loop-claims : Claims q (stateOf q (start q)) (openMemory q u)
   loop-claims =
-      let L = from-start q (F .lower-length) (F .upper-length) (sizes u) (as-true (enough (needed (stateOf q (start q))) (sizes u)) room) (openMemory q u) F (open-inv q u F room) in (
+      let L = from-start q (F .lower-length) (F .upper-length) (sizes u) (as-true (enough (needed (stateOf q (start q))) (sizes u)) room)
+      (openMemory q u) F (open-inv q u F room) in (
         record { last = stateOf q (L .last); answer = L .answer; finished = over-ended q (L .last) ∙ as-true (ended (shape q) (L .last)) (L .finished) },
         λ y e slice c k r.
             let s = same-next y (stateOf q (L .last)) (sym e ∙ L .answer) in

@@ -39,7 +39,8 @@ passed : (r : Bool) (a b : AskAnswer) → isFine a ≡ false → isFine (cond (n
 passed true a b h e = (refl, e)
 passed false a b h e = absurd (false≢true (sym h ∙ e))
 
-pub ranges-fit : (q : Question) → isFine (asked q) ≡ true → (rangeFits (bounds (q .line1)) (q .lo1) (q .hi1) ≡ true) × (rangeFits (bounds (q .line2)) (q .lo2) (q .hi2) ≡ true)
+pub ranges-fit : (q : Question) → isFine (asked q) ≡ true
+    → (rangeFits (bounds (q .line1)) (q .lo1) (q .hi1) ≡ true) × (rangeFits (bounds (q .line2)) (q .lo2) (q .hi2) ≡ true)
 unfolding askWithin
 ranges-fit q e =
     let a = passed (rangeFits (bounds (q .line1)) (q .lo1) (q .hi1)) (RangeOutOfBounds 1) _ refl e in
@@ -89,7 +90,8 @@ same-state : (x y : State) → Open x ≡ Open y → x ≡ y
 same-state x y e = cc
 
 module _ (q : Question) (p1 p2 : List Float) (u : Memory) (x : State) (P : State → Memory → Type 0)
-    (f : Fine (searchFor q) → T (enough (needed (stateOf (searchFor q) (start (searchFor q)))) (sizes u)) → P (stateOf (searchFor q) (start (searchFor q))) (openMemory (searchFor q) u)) where
+    (f : Fine (searchFor q) → T (enough (needed (stateOf (searchFor q) (start (searchFor q)))) (sizes u))
+    → P (stateOf (searchFor q) (start (searchFor q))) (openMemory (searchFor q) u)) where
   pushed-fresh : Fine (searchFor q) → openPieces q p1 p2 u .answer ≡ Open x → P x (openPieces q p1 p2 u .memory)
   pushed-fresh F e = go (enough (needed (stateOf (searchFor q) (start (searchFor q)))) (sizes u)) e (f F)
     where
@@ -102,8 +104,10 @@ module _ (q : Question) (p1 p2 : List Float) (u : Memory) (x : State) (P : State
       go false e h = absurd (let z : _≡_ {A = ℕ} 0 1 = cc in omega arith)
 
   tests-fresh : (a b c d : Bool) → (a ≡ true → b ≡ true → c ≡ true → Fine (searchFor q))
-      → cond {A = Opening} a (cond b (cond c (cond d (openPieces q p1 p2 u) (opening NoRoom p1 p2 u)) (opening (BadQuestion (asked q)) p1 p2 u)) (opening (BadLine 2 (admission (q .line2))) p1 p2 u)) (opening (BadLine 1 (admission (q .line1))) p1 p2 u) .answer ≡ Open x
-      → P x (cond {A = Opening} a (cond b (cond c (cond d (openPieces q p1 p2 u) (opening NoRoom p1 p2 u)) (opening (BadQuestion (asked q)) p1 p2 u)) (opening (BadLine 2 (admission (q .line2))) p1 p2 u)) (opening (BadLine 1 (admission (q .line1))) p1 p2 u) .memory)
+      → cond {A = Opening} a (cond b (cond c (cond d (openPieces q p1 p2 u) (opening NoRoom p1 p2 u)) (opening (BadQuestion (asked q)) p1 p2 u))
+      (opening (BadLine 2 (admission (q .line2))) p1 p2 u)) (opening (BadLine 1 (admission (q .line1))) p1 p2 u) .answer ≡ Open x
+      → P x (cond {A = Opening} a (cond b (cond c (cond d (openPieces q p1 p2 u) (opening NoRoom p1 p2 u)) (opening (BadQuestion (asked q)) p1 p2 u))
+      (opening (BadLine 2 (admission (q .line2))) p1 p2 u)) (opening (BadLine 1 (admission (q .line1))) p1 p2 u) .memory)
   tests-fresh true true true true g e = pushed-fresh (g refl refl refl) e
   tests-fresh true true true false g e = absurd (let z : _≡_ {A = ℕ} 0 1 = cc in omega arith)
   tests-fresh true true false d g e = absurd (let z : _≡_ {A = ℕ} 0 1 = cc in omega arith)

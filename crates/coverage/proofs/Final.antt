@@ -56,7 +56,10 @@ unfolding mid-fine
 halving q = record {
   Sound = SoundPiece;
   sound-half = sh;
-  keeps = λ p s h k. elim (le-total s (middle (p .lo) (p .hi)) (right-number (p .lo) s (k .0)) (within-number (2 ^ bound) (middle (p .lo) (p .hi)) (mid-fine p h))) [ inl x ↦ inl (k .0, x) | inr y ↦ inr (y, k .1) ];
+  keeps =
+      λ p s h k. elim
+      (le-total s (middle (p .lo) (p .hi)) (right-number (p .lo) s (k .0)) (within-number (2 ^ bound) (middle (p .lo) (p .hi)) (mid-fine p h)))
+      [ inl x ↦ inl (k .0, x) | inr y ↦ inr (y, k .1) ];
 }
   where
     sh : (u : Bool) (p : Piece) → SoundPiece p → SoundPiece (half (shape q) u p)
@@ -71,7 +74,9 @@ keeping : Keeping merging (Float × Float)
 keeping = record {
   Valid = Ends;
   Has = λ r x. InRegion (x .0) (x .1) r;
-  valid-join = λ g r v w. (least-is (g .a0) (r .a0) (v .0) (w .0) .number, greatest-is (g .a1) (r .a1) (v .1) (w .1) .number, least-is (g .b0) (r .b0) (v .2) (w .2) .number, greatest-is (g .b1) (r .b1) (v .3) (w .3) .number);
+  valid-join =
+      λ g r v w.
+      (least-is (g .a0) (r .a0) (v .0) (w .0) .number, greatest-is (g .a1) (r .a1) (v .1) (w .1) .number, least-is (g .b0) (r .b0) (v .2) (w .2) .number, greatest-is (g .b1) (r .b1) (v .3) (w .3) .number);
   has-left = λ g r x v w h. (
     (le-trans-float (least (g .a0) (r .a0)) (g .a0) (x .0) (least-is (g .a0) (r .a0) (v .0) (w .0) .left) (h .0 .0), le-trans-float (x .0) (g .a1) (greatest (g .a1) (r .a1)) (h .0 .1) (greatest-is (g .a1) (r .a1) (v .1) (w .1) .left)),
     (le-trans-float (least (g .b0) (r .b0)) (g .b0) (x .1) (least-is (g .b0) (r .b0) (v .2) (w .2) .left) (h .1 .0), le-trans-float (x .1) (g .b1) (greatest (g .b1) (r .b1)) (h .1 .1) (greatest-is (g .b1) (r .b1) (v .3) (w .3) .left)),
@@ -105,13 +110,15 @@ pub record Ok (q : Asked) (m : Search (shape q)) : Type 0 where
   pub honest : T (m .told) → Says q Settled (m .stack)
 
 module _ (q : Asked) where
-  given-divide : (d : Bool) (k : ℕ) (n : Node (shape q)) (r : List (Node (shape q))) (m : Search (shape q)) → SoundNode (shape q) (halving q) n → All (SoundNode (shape q) (halving q)) (m .given)
+  given-divide : (d : Bool) (k : ℕ) (n : Node (shape q)) (r : List (Node (shape q))) (m : Search (shape q)) → SoundNode (shape q) (halving q) n
+      → All (SoundNode (shape q) (halving q)) (m .given)
       → All (SoundNode (shape q) (halving q)) (divide (shape q) d k n r m .given)
   given-divide true k n r m w g = all-append (SoundNode (shape q) (halving q)) (m .given) (n ∷ []) g (w, tt)
   given-divide false zero n r m w g = g
   given-divide false (suc k) n r m w g = g
 
-  given-top : (v : Verdict) (l : List (Node (shape q))) (m : Search (shape q)) → All (SoundNode (shape q) (halving q)) l → All (SoundNode (shape q) (halving q)) (m .given)
+  given-top : (v : Verdict) (l : List (Node (shape q))) (m : Search (shape q)) → All (SoundNode (shape q) (halving q)) l
+      → All (SoundNode (shape q) (halving q)) (m .given)
       → All (SoundNode (shape q) (halving q)) (onTop (shape q) v l m .given)
   given-top Settled [] m w g = g
   given-top Split [] m w g = g
@@ -120,12 +127,14 @@ module _ (q : Asked) where
   given-top Split (n ∷ r) m w g = given-divide (leb limit (depth (shape q) n)) (m .unspent) n r m (w .0) g
   given-top Unseparated (n ∷ r) m w g = all-append (SoundNode (shape q) (halving q)) (m .given) (n ∷ []) g (w .0, tt)
 
-  clear-divide : (d : Bool) (k : ℕ) (n : Node (shape q)) (r : List (Node (shape q))) (m : Search (shape q)) → All (Cleared q) (m .settled) → All (Cleared q) (divide (shape q) d k n r m .settled)
+  clear-divide : (d : Bool) (k : ℕ) (n : Node (shape q)) (r : List (Node (shape q))) (m : Search (shape q)) → All (Cleared q) (m .settled)
+      → All (Cleared q) (divide (shape q) d k n r m .settled)
   clear-divide true k n r m c = c
   clear-divide false zero n r m c = c
   clear-divide false (suc k) n r m c = c
 
-  clear-top : (v : Verdict) (l : List (Node (shape q))) (m : Search (shape q)) → (T (m .told) → Says q Settled l) → All (Cleared q) (m .settled) → All (Cleared q) (onTop (shape q) v l m .settled)
+  clear-top : (v : Verdict) (l : List (Node (shape q))) (m : Search (shape q)) → (T (m .told) → Says q Settled l) → All (Cleared q) (m .settled)
+      → All (Cleared q) (onTop (shape q) v l m .settled)
   clear-top Settled [] m f c = c
   clear-top Split [] m f c = c
   clear-top Unseparated [] m f c = c
@@ -139,7 +148,8 @@ module _ (q : Asked) where
   fresh-divide false zero n r m = refl
   fresh-divide false (suc k) n r m = refl
 
-  honest-top : (v : Verdict) (l : List (Node (shape q))) (m : Search (shape q)) → m .stack ≡ l → (T (m .told) → Says q Settled (m .stack)) → T (onTop (shape q) v l m .told) → Says q Settled (onTop (shape q) v l m .stack)
+  honest-top : (v : Verdict) (l : List (Node (shape q))) (m : Search (shape q)) → m .stack ≡ l → (T (m .told) → Says q Settled (m .stack))
+      → T (onTop (shape q) v l m .told) → Says q Settled (onTop (shape q) v l m .stack)
   honest-top Settled [] m e f t = f t
   honest-top Split [] m e f t = f t
   honest-top Unseparated [] m e f t = f t
@@ -156,7 +166,8 @@ module _ (q : Asked) where
     honest = honest-top v (m .stack) m refl (k .honest);
   }
 
-  keep-covered : (v : Verdict) (m : Search (shape q)) (s t : Float) → Covered (shape q) (pieces1 q) (pieces2 q) m s t → Covered (shape q) (pieces1 q) (pieces2 q) (hear (shape q) v m) s t
+  keep-covered : (v : Verdict) (m : Search (shape q)) (s t : Float) → Covered (shape q) (pieces1 q) (pieces2 q) m s t
+      → Covered (shape q) (pieces1 q) (pieces2 q) (hear (shape q) v m) s t
   keep-covered v m s t (byBoxes h) = byBoxes h
   keep-covered v m s t (bySettled h) = bySettled h
   keep-covered v m s t (byGiven h) = byGiven h
@@ -180,7 +191,9 @@ module _ (q : Asked) where
     ok-step : (v : Verdict) (n : Sizes) (m : Search (shape q)) → Ok q m → Ok q (stepRule q full v n m .search)
     ok-step v n m k = go (ended (shape q) m) (suffices q full n)
       where
-        go : (a b : Bool) → Ok q (cond {A = Ruled q} a (record { answer = stepped Ended; search = m }) (cond b (record { answer = stepped (Next (stateOf q (advance (shape q) v m))); search = advance (shape q) v m }) (record { answer = stepped NoRoom; search = m })) .search)
+        go : (a b : Bool)
+            → Ok q (cond {A = Ruled q} a (record { answer = stepped Ended; search = m })
+            (cond b (record { answer = stepped (Next (stateOf q (advance (shape q) v m))); search = advance (shape q) v m }) (record { answer = stepped NoRoom; search = m })) .search)
         go true b = k
         go false true = ok-advance v m k
         go false false = k
@@ -233,14 +246,21 @@ in-regions q s t (n ∷ l) (inl x) = inl x
 in-regions q s t (n ∷ l) (inr y) = inr (in-regions q s t l y)
 
 raw-valid : (q : Asked) (m : Search (shape q)) → Ok q m → All Ends (rawList q m)
-raw-valid q m k = regions-valid q (m .given ++ reverse (m .stack)) (all-append (SoundNode (shape q) (halving q)) (m .given) (reverse (m .stack)) (k .soundGiven) (all-reverse (SoundNode (shape q) (halving q)) (m .stack) (k .sound)))
+raw-valid q m k =
+    regions-valid q (m .given ++ reverse (m .stack)) (all-append (SoundNode (shape q) (halving q)) (m .given) (reverse (m .stack)) (k .soundGiven)
+    (all-reverse (SoundNode (shape q) (halving q)) (m .stack) (k .sound)))
 
 account : (q : Asked) (m : Search (shape q)) → Ok q m → (s t : Float) → Covered (shape q) (pieces1 q) (pieces2 q) m s t → Accounted q m (merged merging (rawList q m)) s t
 unfolding keeping
 account q m k s t (byBoxes h) = inl h
 account q m k s t (bySettled h) = inr (inl h)
-account q m k s t (byGiven h) = inr (inr (merged-has merging (Float × Float) keeping (s, t) (rawList q m) (raw-valid q m k) (in-regions q s t (m .given ++ reverse (m .stack)) (any-left (InNode (shape q) s t) (m .given) (reverse (m .stack)) h))))
-account q m k s t (byWaiting h) = inr (inr (merged-has merging (Float × Float) keeping (s, t) (rawList q m) (raw-valid q m k) (in-regions q s t (m .given ++ reverse (m .stack)) (any-right (InNode (shape q) s t) (m .given) (reverse (m .stack)) (any-reverse (InNode (shape q) s t) (m .stack) h)))))
+account q m k s t (byGiven h) =
+    inr (inr (merged-has merging (Float × Float) keeping (s, t) (rawList q m) (raw-valid q m k)
+    (in-regions q s t (m .given ++ reverse (m .stack)) (any-left (InNode (shape q) s t) (m .given) (reverse (m .stack)) h))))
+account q m k s t (byWaiting h) =
+    inr (inr (merged-has merging (Float × Float) keeping (s, t) (rawList q m) (raw-valid q m k)
+    (in-regions q s t (m .given ++ reverse (m .stack))
+    (any-right (InNode (shape q) s t) (m .given) (reverse (m .stack)) (any-reverse (InNode (shape q) s t) (m .stack) h)))))
 
 pub word-exact : (g l : ℕ) → (wordFor g l ≡ Complete) ↔ ((g ≡ 0) × (l ≡ 0))
 word-exact zero zero = (λ e. (refl, refl), λ e. refl)
@@ -259,7 +279,8 @@ slice-reads n out slice =
     ap (take (length out * 10)) (append-assoc (flats out) z rest) ∙ take-at (flats out) (z ++ rest) (length out * 10) (flats-length out)
 
 pub good-report : (q : Asked) (m : Search (shape q)) (slice : List Float) → Ok q m → T (ended (shape q) m)
-    → GoodReport q m (wordFor (length (m .given)) (length (m .stack))) (tally q m) (length (merged merging (rawList q m))) (reportSlice (length (m .given) + length (m .stack)) (merged merging (rawList q m)) slice)
+    → GoodReport q m (wordFor (length (m .given)) (length (m .stack))) (tally q m) (length (merged merging (rawList q m)))
+    (reportSlice (length (m .given) + length (m .stack)) (merged merging (rawList q m)) slice)
 good-report q m slice k e =
     let raws = rawList q m in
     record {
@@ -270,14 +291,18 @@ good-report q m slice k e =
       tallied = refl;
       accounted = λ s t a b. account q m k s t (k .covered s t a b);
       disjoint = merged-off merging off-comm raws;
-      exact = subst (λ (x : ℕ). (wordFor (length (m .given)) (length (m .stack)) ≡ Complete) ↔ ((length (m .given) ≡ 0) × (x ≡ 0))) (sym (left-ended (ended (shape q) m) (length (m .stack)) e)) (word-exact (length (m .given)) (length (m .stack)));
+      exact =
+          subst (λ (x : ℕ). (wordFor (length (m .given)) (length (m .stack)) ≡ Complete) ↔ ((length (m .given) ≡ 0) × (x ≡ 0)))
+          (sym (left-ended (ended (shape q) m) (length (m .stack)) e)) (word-exact (length (m .given)) (length (m .stack)));
     }
 
 module _ (q : Asked) (full : Sizes) where
   good-step : (v : Verdict) (n : Sizes) (m m' : Search (shape q)) → GoodAnswer q m' (stepRule q full v n m .answer)
   good-step v n m m' = go (ended (shape q) m) (suffices q full n)
     where
-      go : (a b : Bool) → GoodAnswer q m' (cond {A = Ruled q} a (record { answer = stepped Ended; search = m }) (cond b (record { answer = stepped (Next (stateOf q (advance (shape q) v m))); search = advance (shape q) v m }) (record { answer = stepped NoRoom; search = m })) .answer)
+      go : (a b : Bool)
+          → GoodAnswer q m' (cond {A = Ruled q} a (record { answer = stepped Ended; search = m })
+          (cond b (record { answer = stepped (Next (stateOf q (advance (shape q) v m))); search = advance (shape q) v m }) (record { answer = stepped NoRoom; search = m })) .answer)
       go true b = tt
       go false true = tt
       go false false = tt
@@ -292,12 +317,17 @@ module _ (q : Asked) (full : Sizes) where
       go false true (x ∷ l) = tt
 
   good-rep : (n : Sizes) (slice : List Float) (m : Search (shape q)) → Ok q m → GoodAnswer q m (reportRule q full n slice m)
-  good-rep n slice m k = go (ended (shape q) m) (suffices q full n && leb (pairsOf q * suc (q .quota) * 10) (length slice)) (λ (t : T (ended (shape q) m)). good-report q m slice k t)
+  good-rep n slice m k =
+      go (ended (shape q) m) (suffices q full n && leb (pairsOf q * suc (q .quota) * 10) (length slice))
+      (λ (t : T (ended (shape q) m)). good-report q m slice k t)
     where
       go : (a b : Bool)
-          → (T a → GoodReport q m (wordFor (length (m .given)) (length (m .stack))) (tally q m) (length (merged merging (rawList q m))) (reportSlice (length (m .given) + length (m .stack)) (merged merging (rawList q m)) slice))
+          → (T a
+          → GoodReport q m (wordFor (length (m .given)) (length (m .stack))) (tally q m) (length (merged merging (rawList q m)))
+          (reportSlice (length (m .given) + length (m .stack)) (merged merging (rawList q m)) slice))
           → GoodAnswer q m (cond a (cond b
-          (reported (Told (wordFor (length (m .given)) (length (m .stack))) (tally q m) (length (merged merging (rawList q m)))) (reportSlice (length (m .given) + length (m .stack)) (merged merging (rawList q m)) slice))
+          (reported (Told (wordFor (length (m .given)) (length (m .stack))) (tally q m) (length (merged merging (rawList q m))))
+          (reportSlice (length (m .given) + length (m .stack)) (merged merging (rawList q m)) slice))
           (reported ReportNoRoom slice)) (reported Running slice))
       go false b f = tt
       go true false f = tt
@@ -307,7 +337,10 @@ module _ (q : Asked) (full : Sizes) where
   stay-step : (v : Verdict) (n : Sizes) (m : Search (shape q)) → T (ended (shape q) m) → stepRule q full v n m .search ≡ m
   stay-step v n m t = go (ended (shape q) m) (suffices q full n) t
     where
-      go : (a b : Bool) → T a → cond {A = Ruled q} a (record { answer = stepped Ended; search = m }) (cond b (record { answer = stepped (Next (stateOf q (advance (shape q) v m))); search = advance (shape q) v m }) (record { answer = stepped NoRoom; search = m })) .search ≡ m
+      go : (a b : Bool) → T a
+          → cond {A = Ruled q} a (record { answer = stepped Ended; search = m })
+          (cond b (record { answer = stepped (Next (stateOf q (advance (shape q) v m))); search = advance (shape q) v m }) (record { answer = stepped NoRoom; search = m })) .search
+          ≡ m
       go true b t = refl
       go false b t = absurd t
 
@@ -341,7 +374,10 @@ module _ (q : Asked) (full : Sizes) where
 
   good-all : (cs : List Call) (m : Search (shape q)) → Ok q m → All (GoodAnswer q (ruleAll q full cs m .search)) (ruleAll q full cs m .answers)
   good-all [] m k = tt
-  good-all (c ∷ cs) m k = (later cs (callRule q full c m .search) (callRule q full c m .answer) (good-call c m k), good-all cs (callRule q full c m .search) (ok-call q full c m k))
+  good-all (c ∷ cs) m k = (
+    later cs (callRule q full c m .search) (callRule q full c m .answer) (good-call c m k),
+    good-all cs (callRule q full c m .search) (ok-call q full c m k),
+  )
 
 -- ---- the whole
 pub ok-start : (q : Asked) → Fine q → Ok q (start q)

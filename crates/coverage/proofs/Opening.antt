@@ -39,7 +39,8 @@ module _ (S : Shape) (P P' : S .Part → Type 0) (Q : Node S → Type 0) (f : (p
 
 -- what holds of each piece
 pub all-pieces : (P : Piece → Type 0) (w : ℕ) (from : Float) (cs : List Cut)
-    → ((lo hi : Float) (l : List Float) → Within (2 ^ bound) lo → Within (2 ^ bound) hi → length l ≡ 4 * w → P (record { lo = lo; hi = hi; net = l })) → FineLine w from cs → All P (piecesFrom from cs)
+    → ((lo hi : Float) (l : List Float) → Within (2 ^ bound) lo → Within (2 ^ bound) hi → length l ≡ 4 * w → P (record { lo = lo; hi = hi; net = l }))
+    → FineLine w from cs → All P (piecesFrom from cs)
 all-pieces P w from [] f h = tt
 all-pieces P w from (c ∷ cs) f h = (f from (c .to) (c .net) (h .0) (h .1 .0 .0) (h .1 .0 .1), all-pieces P w (c .to) cs f (h .1 .0 .0, h .1 .1))
 
@@ -62,14 +63,17 @@ module _ {A B : Type 0} (w : ℕ) (f : B → List A) where
 
   joined-length : (ns : List B) → All (λ (n : B). length (f n) ≡ w) ns → length (joined (map f ns)) ≡ length ns * w
   joined-length [] h = omega (arith, native.Mathlib.Nat.zero-mul w)
-  joined-length (n ∷ r) h = length-append (f n) (joined (map f r)) ∙ (λ i. h .0 i + joined-length r (h .1) i) ∙ native.Mathlib.Nat.add-comm w (length r * w) ∙ sym (suc-mul (length r) w)
+  joined-length (n ∷ r) h =
+      length-append (f n) (joined (map f r)) ∙ (λ i. h .0 i + joined-length r (h .1) i) ∙ native.Mathlib.Nat.add-comm w (length r * w)
+      ∙ sym (suc-mul (length r) w)
 
 module _ (q : Asked) (u : Memory) where
   abbrev Up : ℕ → List (Node (shape q)) → Type 0
   Up j [] = Unit {0}
   Up j (n ∷ r) = Stored q u j n × Up (suc j) r
 
-  up-of : (j : ℕ) (l : List (Node (shape q))) → Blk (4 * q .width1) (netOf1 q) j l (u .nets1) → Blk (4 * q .width2) (netOf2 q) j l (u .nets2) → Blk 4 (rangesOf q) j l (u .ranges) → Blk 1 (depthOf q) j l (u .depths) → Up j l
+  up-of : (j : ℕ) (l : List (Node (shape q))) → Blk (4 * q .width1) (netOf1 q) j l (u .nets1) → Blk (4 * q .width2) (netOf2 q) j l (u .nets2)
+      → Blk 4 (rangesOf q) j l (u .ranges) → Blk 1 (depthOf q) j l (u .depths) → Up j l
   up-of j [] a b c d = tt
   up-of j (n ∷ r) a b c d = (record { net1 = a .0; net2 = b .0; ranges = c .0; depth = d .0 }, up-of (suc j) r (a .1) (b .1) (c .1) (d .1))
 
@@ -86,11 +90,15 @@ open-inv q u O room =
     let N = pushedPairs q in
     let R = room-of q (sizes u) room in
     let la : All (λ (n : Node (shape q)). length (netOf1 q n) ≡ 4 * q .width1) N =
-    all-pushed (shape q) (λ (p : Piece). length (p .net) ≡ 4 * q .width1) (λ (p : Piece). Unit {0}) (λ (n : Node (shape q)). length (netOf1 q n) ≡ 4 * q .width1) (λ p p' a b. a) (pieces1 q) (pieces2 q)
-    (all-pieces (λ (p : Piece). length (p .net) ≡ 4 * q .width1) (q .width1) (q .lo1) (q .cuts1) (λ lo hi l x y e. e) (O .fine1)) (all-same (λ (p : Piece). Unit {0}) (λ (p : Piece). tt) (pieces2 q)) in
+    all-pushed (shape q) (λ (p : Piece). length (p .net) ≡ 4 * q .width1) (λ (p : Piece). Unit {0})
+    (λ (n : Node (shape q)). length (netOf1 q n) ≡ 4 * q .width1) (λ p p' a b. a) (pieces1 q) (pieces2 q)
+    (all-pieces (λ (p : Piece). length (p .net) ≡ 4 * q .width1) (q .width1) (q .lo1) (q .cuts1) (λ lo hi l x y e. e) (O .fine1))
+    (all-same (λ (p : Piece). Unit {0}) (λ (p : Piece). tt) (pieces2 q)) in
     let lb : All (λ (n : Node (shape q)). length (netOf2 q n) ≡ 4 * q .width2) N =
-    all-pushed (shape q) (λ (p : Piece). Unit {0}) (λ (p : Piece). length (p .net) ≡ 4 * q .width2) (λ (n : Node (shape q)). length (netOf2 q n) ≡ 4 * q .width2) (λ p p' a b. b) (pieces1 q) (pieces2 q)
-    (all-same (λ (p : Piece). Unit {0}) (λ (p : Piece). tt) (pieces1 q)) (all-pieces (λ (p : Piece). length (p .net) ≡ 4 * q .width2) (q .width2) (q .lo2) (q .cuts2) (λ lo hi l x y e. e) (O .fine2)) in
+    all-pushed (shape q) (λ (p : Piece). Unit {0}) (λ (p : Piece). length (p .net) ≡ 4 * q .width2)
+    (λ (n : Node (shape q)). length (netOf2 q n) ≡ 4 * q .width2) (λ p p' a b. b) (pieces1 q) (pieces2 q)
+    (all-same (λ (p : Piece). Unit {0}) (λ (p : Piece). tt) (pieces1 q))
+    (all-pieces (λ (p : Piece). length (p .net) ≡ 4 * q .width2) (q .width2) (q .lo2) (q .cuts2) (λ lo hi l x y e. e) (O .fine2)) in
     let lr : All (λ (n : Node (shape q)). length (rangesOf q n) ≡ 4) N = all-same (λ (n : Node (shape q)). length (rangesOf q n) ≡ 4) (λ n. refl) N in
     let ld : All (λ (n : Node (shape q)). length (depthOf q n) ≡ 1) N = all-same (λ (n : Node (shape q)). length (depthOf q n) ≡ 1) (λ n. refl) N in
     record {

@@ -83,7 +83,8 @@ room-own q s t =
     }
 
 -- the slot k of a start that is long enough
-pub start-block : {A : Type 0} (q : Asked) (N : ℕ) (l : List A) (w k : ℕ) → k < pairsOf q + limit → (pairsOf q + limit) * w ≤ length (take N l) → block w k (take N l) ≡ block w k l
+pub start-block : {A : Type 0} (q : Asked) (N : ℕ) (l : List A) (w k : ℕ) → k < pairsOf q + limit → (pairsOf q + limit) * w ≤ length (take N l)
+    → block w k (take N l) ≡ block w k l
 start-block q N l w k h r = let m = length-take N l in let f : suc k * w ≤ (pairsOf q + limit) * w = mul-le-mul-right w h in block-take w k N l (omega arith)
 
 -- ---- a start that is long enough holds the same nodes; and so does a memory given back
@@ -100,8 +101,12 @@ agree-lend q n u r = record {
 
 pub agree-back : (q : Asked) (n : Sizes) (w u : Memory) → Room q (sizes w) → Agree q (pairsOf q + limit) w (giveBack n w u)
 agree-back q n w u r = record {
-  net1 = λ k h. block-append (4 * q .width1) k (w .nets1) (drop (n .nets1) (u .nets1)) (fits-in (suc k) (pairsOf q + limit) (4 * q .width1) (length (w .nets1)) h (r .nets1));
-  net2 = λ k h. block-append (4 * q .width2) k (w .nets2) (drop (n .nets2) (u .nets2)) (fits-in (suc k) (pairsOf q + limit) (4 * q .width2) (length (w .nets2)) h (r .nets2));
+  net1 =
+      λ k h. block-append (4 * q .width1) k (w .nets1) (drop (n .nets1) (u .nets1))
+      (fits-in (suc k) (pairsOf q + limit) (4 * q .width1) (length (w .nets1)) h (r .nets1));
+  net2 =
+      λ k h. block-append (4 * q .width2) k (w .nets2) (drop (n .nets2) (u .nets2))
+      (fits-in (suc k) (pairsOf q + limit) (4 * q .width2) (length (w .nets2)) h (r .nets2));
   ranges = λ k h. block-append 4 k (w .ranges) (drop (n .ranges) (u .ranges)) (fits-in (suc k) (pairsOf q + limit) 4 (length (w .ranges)) h (r .ranges));
   depth = λ k h. block-append 1 k (w .depths) (drop (n .depths) (u .depths)) (fits-in (suc k) (pairsOf q + limit) 1 (length (w .depths)) h (r .depths));
 }
@@ -193,7 +198,8 @@ newRanges q n c =
 abbrev pub newDepth : (q : Asked) → Node (shape q) → List ℕ
 newDepth q n = suc (depth (shape q) n) ∷ []
 
-module _ (q : Asked) (low : (w : ℕ) (l : List Float) → length l ≡ 4 * w → length (q .geometry .lowerNet l) ≡ 4 * w) (upp : (w : ℕ) (l : List Float) → length l ≡ 4 * w → length (q .geometry .upperNet l) ≡ 4 * w) where
+module _ (q : Asked) (low : (w : ℕ) (l : List Float) → length l ≡ 4 * w → length (q .geometry .lowerNet l) ≡ 4 * w)
+    (upp : (w : ℕ) (l : List Float) → length l ≡ 4 * w → length (q .geometry .upperNet l) ≡ 4 * w) where
   half-length : (w : ℕ) (b u : Bool) (p : Piece) → length (p .net) ≡ 4 * w → length (halves (q .geometry) b u p .net) ≡ 4 * w
   half-length w true true p h = upp w (p .net) h
   half-length w true false p h = low w (p .net) h
@@ -207,10 +213,16 @@ module _ (q : Asked) (low : (w : ℕ) (l : List Float) → length l ≡ 4 * w �
 
   module _ (k : ℕ) (u : Memory) (n : Node (shape q)) (fit : suc (suc k) ≤ pairsOf q + limit) (r : Room q (sizes u)) (z : Stored q u k n) where
     la : (c : Bool) → length (halves (q .geometry) (not (larger (shape q) n)) c (partOf (shape q) (n .a)) .net) ≡ 4 * q .width1
-    la c = half-length (q .width1) (not (larger (shape q) n)) c (partOf (shape q) (n .a)) (ap length (sym (z .net1)) ∙ block-length (4 * q .width1) k (u .nets1) (fits-in (suc k) (pairsOf q + limit) (4 * q .width1) (length (u .nets1)) (omega arith) (r .nets1)))
+    la c =
+        half-length (q .width1) (not (larger (shape q) n)) c (partOf (shape q) (n .a))
+        (ap length (sym (z .net1))
+        ∙ block-length (4 * q .width1) k (u .nets1) (fits-in (suc k) (pairsOf q + limit) (4 * q .width1) (length (u .nets1)) (omega arith) (r .nets1)))
 
     lb : (c : Bool) → length (halves (q .geometry) (larger (shape q) n) c (partOf (shape q) (n .b)) .net) ≡ 4 * q .width2
-    lb c = half-length (q .width2) (larger (shape q) n) c (partOf (shape q) (n .b)) (ap length (sym (z .net2)) ∙ block-length (4 * q .width2) k (u .nets2) (fits-in (suc k) (pairsOf q + limit) (4 * q .width2) (length (u .nets2)) (omega arith) (r .nets2)))
+    lb c =
+        half-length (q .width2) (larger (shape q) n) c (partOf (shape q) (n .b))
+        (ap length (sym (z .net2))
+        ∙ block-length (4 * q .width2) k (u .nets2) (fits-in (suc k) (pairsOf q + limit) (4 * q .width2) (length (u .nets2)) (omega arith) (r .nets2)))
 
     start-fits : (w len : ℕ) → (pairsOf q + limit) * w ≤ len → k * w ≤ len
     start-fits w len h = fits-in k (pairsOf q + limit) w len (omega arith) h
@@ -221,10 +233,18 @@ module _ (q : Asked) (low : (w : ℕ) (l : List Float) → length l ≡ 4 * w �
         let pa = child-a q b true n in
         let pb = child-b q b true n in
         record {
-          net1 = block-first (4 * q .width1) k (u .nets1) (newNet1 q n true) (newNet1 q n false) (start-fits (4 * q .width1) (length (u .nets1)) (r .nets1)) (la true) ∙ ap (λ (p : Piece). p .net) pa;
-          net2 = block-first (4 * q .width2) k (u .nets2) (newNet2 q n true) (newNet2 q n false) (start-fits (4 * q .width2) (length (u .nets2)) (r .nets2)) (lb true) ∙ ap (λ (p : Piece). p .net) pb;
-          ranges = block-first 4 k (u .ranges) (newRanges q n true) (newRanges q n false) (start-fits 4 (length (u .ranges)) (r .ranges)) refl ∙ (λ i. pa i .lo ∷ pa i .hi ∷ pb i .lo ∷ pb i .hi ∷ []);
-          depth = block-first 1 k (u .depths) (newDepth q n) (newDepth q n) (start-fits 1 (length (u .depths)) (r .depths)) refl ∙ ap {B = List ℕ} (λ (d : ℕ). d ∷ []) (sym (child-depth (shape q) b true n));
+          net1 =
+              block-first (4 * q .width1) k (u .nets1) (newNet1 q n true) (newNet1 q n false)
+              (start-fits (4 * q .width1) (length (u .nets1)) (r .nets1)) (la true) ∙ ap (λ (p : Piece). p .net) pa;
+          net2 =
+              block-first (4 * q .width2) k (u .nets2) (newNet2 q n true) (newNet2 q n false)
+              (start-fits (4 * q .width2) (length (u .nets2)) (r .nets2)) (lb true) ∙ ap (λ (p : Piece). p .net) pb;
+          ranges =
+              block-first 4 k (u .ranges) (newRanges q n true) (newRanges q n false) (start-fits 4 (length (u .ranges)) (r .ranges)) refl
+              ∙ (λ i. pa i .lo ∷ pa i .hi ∷ pb i .lo ∷ pb i .hi ∷ []);
+          depth =
+              block-first 1 k (u .depths) (newDepth q n) (newDepth q n) (start-fits 1 (length (u .depths)) (r .depths)) refl
+              ∙ ap {B = List ℕ} (λ (d : ℕ). d ∷ []) (sym (child-depth (shape q) b true n));
         }
 
     pub split-lower : Stored q (splitAt q k u n) (suc k) (child (shape q) (larger (shape q) n) false n)
@@ -233,25 +253,47 @@ module _ (q : Asked) (low : (w : ℕ) (l : List Float) → length l ≡ 4 * w �
         let pa = child-a q b false n in
         let pb = child-b q b false n in
         record {
-          net1 = block-second (4 * q .width1) k (u .nets1) (newNet1 q n true) (newNet1 q n false) (start-fits (4 * q .width1) (length (u .nets1)) (r .nets1)) (la true) (la false) ∙ ap (λ (p : Piece). p .net) pa;
-          net2 = block-second (4 * q .width2) k (u .nets2) (newNet2 q n true) (newNet2 q n false) (start-fits (4 * q .width2) (length (u .nets2)) (r .nets2)) (lb true) (lb false) ∙ ap (λ (p : Piece). p .net) pb;
-          ranges = block-second 4 k (u .ranges) (newRanges q n true) (newRanges q n false) (start-fits 4 (length (u .ranges)) (r .ranges)) refl refl ∙ (λ i. pa i .lo ∷ pa i .hi ∷ pb i .lo ∷ pb i .hi ∷ []);
-          depth = block-second 1 k (u .depths) (newDepth q n) (newDepth q n) (start-fits 1 (length (u .depths)) (r .depths)) refl refl ∙ ap {B = List ℕ} (λ (d : ℕ). d ∷ []) (sym (child-depth (shape q) b false n));
+          net1 =
+              block-second (4 * q .width1) k (u .nets1) (newNet1 q n true) (newNet1 q n false)
+              (start-fits (4 * q .width1) (length (u .nets1)) (r .nets1)) (la true) (la false) ∙ ap (λ (p : Piece). p .net) pa;
+          net2 =
+              block-second (4 * q .width2) k (u .nets2) (newNet2 q n true) (newNet2 q n false)
+              (start-fits (4 * q .width2) (length (u .nets2)) (r .nets2)) (lb true) (lb false) ∙ ap (λ (p : Piece). p .net) pb;
+          ranges =
+              block-second 4 k (u .ranges) (newRanges q n true) (newRanges q n false) (start-fits 4 (length (u .ranges)) (r .ranges)) refl refl
+              ∙ (λ i. pa i .lo ∷ pa i .hi ∷ pb i .lo ∷ pb i .hi ∷ []);
+          depth =
+              block-second 1 k (u .depths) (newDepth q n) (newDepth q n) (start-fits 1 (length (u .depths)) (r .depths)) refl refl
+              ∙ ap {B = List ℕ} (λ (d : ℕ). d ∷ []) (sym (child-depth (shape q) b false n));
         }
 
     -- the slots below stay
     pub split-below : Agree q k u (splitAt q k u n)
     split-below = record {
-      net1 = λ j h. block-before (4 * q .width1) j (k * (4 * q .width1)) (u .nets1) (newNet1 q n true ++ newNet1 q n false) (mul-le-mul-right (4 * q .width1) h) (start-fits (4 * q .width1) (length (u .nets1)) (r .nets1));
-      net2 = λ j h. block-before (4 * q .width2) j (k * (4 * q .width2)) (u .nets2) (newNet2 q n true ++ newNet2 q n false) (mul-le-mul-right (4 * q .width2) h) (start-fits (4 * q .width2) (length (u .nets2)) (r .nets2));
-      ranges = λ j h. block-before 4 j (k * 4) (u .ranges) (newRanges q n true ++ newRanges q n false) (mul-le-mul-right 4 h) (start-fits 4 (length (u .ranges)) (r .ranges));
+      net1 =
+          λ j h. block-before (4 * q .width1) j (k * (4 * q .width1)) (u .nets1) (newNet1 q n true ++ newNet1 q n false)
+          (mul-le-mul-right (4 * q .width1) h) (start-fits (4 * q .width1) (length (u .nets1)) (r .nets1));
+      net2 =
+          λ j h. block-before (4 * q .width2) j (k * (4 * q .width2)) (u .nets2) (newNet2 q n true ++ newNet2 q n false)
+          (mul-le-mul-right (4 * q .width2) h) (start-fits (4 * q .width2) (length (u .nets2)) (r .nets2));
+      ranges =
+          λ j h. block-before 4 j (k * 4) (u .ranges) (newRanges q n true ++ newRanges q n false) (mul-le-mul-right 4 h)
+          (start-fits 4 (length (u .ranges)) (r .ranges));
       depth = λ j h. block-before 1 j (k * 1) (u .depths) (newDepth q n ++ newDepth q n) (mul-le-mul-right 1 h) (start-fits 1 (length (u .depths)) (r .depths));
     }
 
     pub split-sizes : sizes (splitAt q k u n) ≡ sizes u
     split-sizes = λ i. record {
-      nets1 = patch-length (u .nets1) (k * (4 * q .width1)) (newNet1 q n true ++ newNet1 q n false) (subst (λ (x : ℕ). k * (4 * q .width1) + x ≤ length (u .nets1)) (sym (pair-length (4 * q .width1) (newNet1 q n true) (newNet1 q n false) (la true) (la false))) (room2 k (4 * q .width1) (length (u .nets1)) fit (r .nets1))) i;
-      nets2 = patch-length (u .nets2) (k * (4 * q .width2)) (newNet2 q n true ++ newNet2 q n false) (subst (λ (x : ℕ). k * (4 * q .width2) + x ≤ length (u .nets2)) (sym (pair-length (4 * q .width2) (newNet2 q n true) (newNet2 q n false) (lb true) (lb false))) (room2 k (4 * q .width2) (length (u .nets2)) fit (r .nets2))) i;
+      nets1 =
+          patch-length (u .nets1) (k * (4 * q .width1)) (newNet1 q n true ++ newNet1 q n false)
+          (subst (λ (x : ℕ). k * (4 * q .width1) + x ≤ length (u .nets1))
+          (sym (pair-length (4 * q .width1) (newNet1 q n true) (newNet1 q n false) (la true) (la false)))
+          (room2 k (4 * q .width1) (length (u .nets1)) fit (r .nets1))) i;
+      nets2 =
+          patch-length (u .nets2) (k * (4 * q .width2)) (newNet2 q n true ++ newNet2 q n false)
+          (subst (λ (x : ℕ). k * (4 * q .width2) + x ≤ length (u .nets2))
+          (sym (pair-length (4 * q .width2) (newNet2 q n true) (newNet2 q n false) (lb true) (lb false)))
+          (room2 k (4 * q .width2) (length (u .nets2)) fit (r .nets2))) i;
       ranges = patch-length (u .ranges) (k * 4) (newRanges q n true ++ newRanges q n false) (room2 k 4 (length (u .ranges)) fit (r .ranges)) i;
       depths = patch-length (u .depths) (k * 1) (newDepth q n ++ newDepth q n) (room2 k 1 (length (u .depths)) fit (r .depths)) i;
       raw = length (u .raw);
@@ -275,7 +317,10 @@ length-mapped f [] = refl
 length-mapped f (x ∷ l) = ap suc (length-mapped f l)
 
 patch-take : {A : Type 0} (l : List A) (i : ℕ) (vs : List A) → i ≤ length l → take (i + length vs) (patch l i vs) ≡ take i l ++ vs
-patch-take l i vs h = ap (take (i + length vs)) (sym (append-assoc (take i l) vs (drop (i + length vs) l))) ∙ take-at (take i l ++ vs) (drop (i + length vs) l) (i + length vs) (length-append (take i l) vs ∙ ap (λ (z : ℕ). z + length vs) (length-take-le i l h))
+patch-take l i vs h =
+    ap (take (i + length vs)) (sym (append-assoc (take i l) vs (drop (i + length vs) l)))
+    ∙ take-at (take i l ++ vs) (drop (i + length vs) l) (i + length vs)
+    (length-append (take i l) vs ∙ ap (λ (z : ℕ). z + length vs) (length-take-le i l h))
 
 -- regions written behind those that are there
 pub raw-more : (q : Asked) (g : List (Node (shape q))) (more : List Region) (raw : List Float) → length g * 10 ≤ length raw
@@ -286,7 +331,8 @@ raw-more q g more raw h e =
 
 give-raw : (q : Asked) (g : List (Node (shape q))) (n : Node (shape q)) (raw : List Float) → length g * 10 ≤ length raw
     → take (length g * 10) raw ≡ flats (map (regionOf (q .geometry) (q .gap)) g)
-    → take (length (g ++ (n ∷ [])) * 10) (patch raw (length g * 10) (flat (regionOf (q .geometry) (q .gap) n))) ≡ flats (map (regionOf (q .geometry) (q .gap)) (g ++ (n ∷ [])))
+    → take (length (g ++ (n ∷ [])) * 10) (patch raw (length g * 10) (flat (regionOf (q .geometry) (q .gap) n)))
+    ≡ flats (map (regionOf (q .geometry) (q .gap)) (g ++ (n ∷ [])))
 give-raw q g n raw h e =
     let f = regionOf (q .geometry) (q .gap) in
     let c : length (g ++ (n ∷ [])) * 10 ≡ length g * 10 + 10 = ap (λ (z : ℕ). z * 10) (length-append g (n ∷ [])) ∙ add-mul (length g) 1 10 in
@@ -301,12 +347,22 @@ pub over-ended : (q : Asked) (m : Search (shape q)) → over (stateOf q m) ≡ e
 over-ended q m = ap (λ (b : Bool). m .stopped || b) (zero-none (shape q) (m .stack))
 
 pub counts-tally : (q : Asked) (m : Search (shape q)) → countsOf (stateOf q m) ≡ tally q m
-counts-tally q m = λ i. record { pairs = pairsOf q; visits = m .visits; splits = m .splits; settled = length (m .settled); given = length (m .given); left = cond (over-ended q m i) (length (m .stack)) 0; unspent = m .unspent }
+counts-tally q m =
+    λ i. record {
+      pairs = pairsOf q;
+      visits = m .visits;
+      splits = m .splits;
+      settled = length (m .settled);
+      given = length (m .given);
+      left = cond (over-ended q m i) (length (m .stack)) 0;
+      unspent = m .unspent;
+    }
 
 -- ---- a step: either nothing changes, or the search moves on and the memory holds it
 pub data StepSim (q : Asked) (o : Outcome) (r : Ruled q) (m : Search (shape q)) (w : Memory) : Type 0 where
   unchanged : o .answer ≡ r .answer → o .state ≡ stateOf q m → o .memory ≡ w → r .search ≡ m → StepSim q o r m w
-  moved : o .answer ≡ r .answer → o .state ≡ stateOf q (r .search) → Held q (r .search) (o .memory) → sizes (o .memory) ≡ sizes w → Room q (sizes w) → Numbers q (r .search) → StepSim q o r m w
+  moved : o .answer ≡ r .answer → o .state ≡ stateOf q (r .search) → Held q (r .search) (o .memory) → sizes (o .memory) ≡ sizes w → Room q (sizes w)
+      → Numbers q (r .search) → StepSim q o r m w
 
 abbrev pub search : (q : Asked) → List (Node (shape q)) → List (Settling (shape q)) → List (Node (shape q)) → ℕ → ℕ → ℕ → Bool → Bool → Search (shape q)
 search q l se gi vi sp un st to = record { stack = l; settled = se; given = gi; visits = vi; splits = sp; unspent = un; stopped = st; told = to }
@@ -319,7 +375,8 @@ ruleWith q e v m =
 abbrev accepted : (q : Asked) → Search (shape q) → Ruled q
 accepted q m = record { answer = stepped (Next (stateOf q m)); search = m }
 
-module _ (q : Asked) (low : (w : ℕ) (l : List Float) → length l ≡ 4 * w → length (q .geometry .lowerNet l) ≡ 4 * w) (upp : (w : ℕ) (l : List Float) → length l ≡ 4 * w → length (q .geometry .upperNet l) ≡ 4 * w) where
+module _ (q : Asked) (low : (w : ℕ) (l : List Float) → length l ≡ 4 * w → length (q .geometry .lowerNet l) ≡ 4 * w)
+    (upp : (w : ℕ) (l : List Float) → length l ≡ 4 * w → length (q .geometry .upperNet l) ≡ 4 * w) where
   module _ (n : Node (shape q)) (r : List (Node (shape q))) (se : List (Settling (shape q))) (gi : List (Node (shape q))) (vi sp un : ℕ) (to : Bool) (w : Memory)
       (N : Numbers q (search q (n ∷ r) se gi vi sp un false to)) (R : Room q (sizes w)) (H : Held q (search q (n ∷ r) se gi vi sp un false to) w) where
     given-fits : suc (length gi) ≤ pairsOf q * suc (q .quota)
@@ -328,7 +385,9 @@ module _ (q : Asked) (low : (w : ℕ) (l : List Float) → length l ≡ 4 * w �
     raw-fits : suc (length gi) * 10 ≤ length (w .raw)
     raw-fits = fits-in (suc (length gi)) (pairsOf q * suc (q .quota)) 10 (length (w .raw)) given-fits (R .raw)
 
-    give-sim : StepSim q (stepOutcome (stateOf q (search q (n ∷ r) se gi vi sp un false to)) (giveUpAt (q .geometry) (length r) (stateOf q (search q (n ∷ r) se gi vi sp un false to)) w (partOf (shape q) (n .a)) (partOf (shape q) (n .b))))
+    give-sim : StepSim q (stepOutcome (stateOf q (search q (n ∷ r) se gi vi sp un false to))
+        (giveUpAt (q .geometry) (length r) (stateOf q (search q (n ∷ r) se gi vi sp un false to)) w (partOf (shape q) (n .a))
+        (partOf (shape q) (n .b))))
         (accepted q (giveUp (shape q) n r (search q (n ∷ r) se gi vi sp un false to))) (search q (n ∷ r) se gi vi sp un false to) w
     give-sim =
         let m' = giveUp (shape q) n r (search q (n ∷ r) se gi vi sp un false to) in
@@ -336,15 +395,36 @@ module _ (q : Asked) (low : (w : ℕ) (l : List Float) → length l ≡ 4 * w �
         let c10 : suc (length gi) * 10 ≡ length gi * 10 + 10 = suc-mul (length gi) 10 in
         let rf = raw-fits in
         let st : givenState (length r) (stateOf q (search q (n ∷ r) se gi vi sp un false to)) ≡ stateOf q m' =
-        λ i. record { pairs = pairsOf q; quota = q .quota; waiting = length r; visits = suc vi; splits = sp; unspent = un; settled = length se; given = sym g1 i; width1 = q .width1; width2 = q .width2; gap = q .gap; stopped = false } in
+        λ i. record {
+          pairs = pairsOf q;
+          quota = q .quota;
+          waiting = length r;
+          visits = suc vi;
+          splits = sp;
+          unspent = un;
+          settled = length se;
+          given = sym g1 i;
+          width1 = q .width1;
+          width2 = q .width2;
+          gap = q .gap;
+          stopped = false;
+        } in
         moved
         (ap (λ (x : State). stepped (Next x)) st)
         st
         (record {
-          nodes = agree-stored q (length r) w _ r (record { net1 = λ k h. refl; net2 = λ k h. refl; ranges = λ k h. refl; depth = λ k h. refl }) (le-refl (length r)) (H .nodes .1);
+          nodes =
+              agree-stored q (length r) w _ r (record { net1 = λ k h. refl; net2 = λ k h. refl; ranges = λ k h. refl; depth = λ k h. refl })
+              (le-refl (length r)) (H .nodes .1);
           raw = give-raw q gi n (w .raw) (omega arith) (H .raw);
         })
-        (λ i. record { nets1 = length (w .nets1); nets2 = length (w .nets2); ranges = length (w .ranges); depths = length (w .depths); raw = patch-length (w .raw) (length gi * 10) (flat (regionOf (q .geometry) (q .gap) n)) (omega arith) i })
+        (λ i. record {
+          nets1 = length (w .nets1);
+          nets2 = length (w .nets2);
+          ranges = length (w .ranges);
+          depths = length (w .depths);
+          raw = patch-length (w .raw) (length gi * 10) (flat (regionOf (q .geometry) (q .gap) n)) (omega arith) i;
+        })
         R
         (record {
           counts = count-advance (shape q) (pairsOf q) Unseparated (search q (n ∷ r) se gi vi sp un false to) (N .counts);
@@ -353,14 +433,18 @@ module _ (q : Asked) (low : (w : ℕ) (l : List Float) → length l ≡ 4 * w �
         })
 
     stop-sim : Numbers q (divide (shape q) false zero n r (search q (n ∷ r) se gi vi sp un false to))
-        → StepSim q (stepOutcome (stateOf q (search q (n ∷ r) se gi vi sp un false to)) (divideAt (q .geometry) false zero (length r) (stateOf q (search q (n ∷ r) se gi vi sp un false to)) w (partOf (shape q) (n .a)) (partOf (shape q) (n .b)) (depth (shape q) n)))
+        → StepSim q (stepOutcome (stateOf q (search q (n ∷ r) se gi vi sp un false to))
+        (divideAt (q .geometry) false zero (length r) (stateOf q (search q (n ∷ r) se gi vi sp un false to)) w (partOf (shape q) (n .a))
+        (partOf (shape q) (n .b)) (depth (shape q) n)))
         (accepted q (divide (shape q) false zero n r (search q (n ∷ r) se gi vi sp un false to))) (search q (n ∷ r) se gi vi sp un false to) w
     stop-sim K =
         let m' = divide (shape q) false zero n r (search q (n ∷ r) se gi vi sp un false to) in
         moved refl refl (record { nodes = H .nodes; raw = H .raw }) refl R K
 
     split-sim : (s : ℕ) → depth (shape q) n < limit → Numbers q (divide (shape q) false (suc s) n r (search q (n ∷ r) se gi vi sp un false to))
-        → StepSim q (stepOutcome (stateOf q (search q (n ∷ r) se gi vi sp un false to)) (divideAt (q .geometry) false (suc s) (length r) (stateOf q (search q (n ∷ r) se gi vi sp un false to)) w (partOf (shape q) (n .a)) (partOf (shape q) (n .b)) (depth (shape q) n)))
+        → StepSim q (stepOutcome (stateOf q (search q (n ∷ r) se gi vi sp un false to))
+        (divideAt (q .geometry) false (suc s) (length r) (stateOf q (search q (n ∷ r) se gi vi sp un false to)) w (partOf (shape q) (n .a))
+        (partOf (shape q) (n .b)) (depth (shape q) n)))
         (accepted q (divide (shape q) false (suc s) n r (search q (n ∷ r) se gi vi sp un false to))) (search q (n ∷ r) se gi vi sp un false to) w
     split-sim s d K =
         let m' = divide (shape q) false (suc s) n r (search q (n ∷ r) se gi vi sp un false to) in
@@ -369,19 +453,24 @@ module _ (q : Asked) (low : (w : ℕ) (l : List Float) → length l ≡ 4 * w �
         let z = H .nodes .0 in
         moved refl refl
         (record {
-          nodes = (split-lower q low upp (length r) w n fit R z, (split-upper q low upp (length r) w n fit R z, agree-stored q (length r) w (splitAt q (length r) w n) r (split-below q low upp (length r) w n fit R z) (le-refl (length r)) (H .nodes .1)));
+          nodes =
+              (split-lower q low upp (length r) w n fit R z, (split-upper q low upp (length r) w n fit R z, agree-stored q (length r) w (splitAt q (length r) w n) r (split-below q low upp (length r) w n fit R z) (le-refl (length r)) (H .nodes .1)));
           raw = H .raw;
         })
         (split-sizes q low upp (length r) w n fit R z) R K
 
     -- the numbers after a Split
-    divide-numbers : (b : Bool) (k : ℕ) → un ≡ k → Balance (shape q) (pairsOf q) (divide (shape q) b k n r (search q (n ∷ r) se gi vi sp un false to)) → Numbers q (divide (shape q) b k n r (search q (n ∷ r) se gi vi sp un false to))
+    divide-numbers : (b : Bool) (k : ℕ) → un ≡ k → Balance (shape q) (pairsOf q) (divide (shape q) b k n r (search q (n ∷ r) se gi vi sp un false to))
+        → Numbers q (divide (shape q) b k n r (search q (n ∷ r) se gi vi sp un false to))
     divide-numbers true k e c = record { counts = c; allowance = N .allowance; visited = let v = N .visited in let g = length-append gi (n ∷ []) in omega arith }
     divide-numbers false zero e c = record { counts = c; allowance = let a = N .allowance in omega arith; visited = let v = N .visited in omega arith }
     divide-numbers false (suc k) e c = record { counts = c; allowance = let a = N .allowance in omega arith; visited = let v = N .visited in omega arith }
 
-    divide-sim : (b : Bool) (k : ℕ) → un ≡ k → (T (not b) → depth (shape q) n < limit) → Balance (shape q) (pairsOf q) (divide (shape q) b k n r (search q (n ∷ r) se gi vi sp un false to))
-        → StepSim q (stepOutcome (stateOf q (search q (n ∷ r) se gi vi sp un false to)) (divideAt (q .geometry) b k (length r) (stateOf q (search q (n ∷ r) se gi vi sp un false to)) w (partOf (shape q) (n .a)) (partOf (shape q) (n .b)) (depth (shape q) n)))
+    divide-sim : (b : Bool) (k : ℕ) → un ≡ k → (T (not b) → depth (shape q) n < limit)
+        → Balance (shape q) (pairsOf q) (divide (shape q) b k n r (search q (n ∷ r) se gi vi sp un false to))
+        → StepSim q (stepOutcome (stateOf q (search q (n ∷ r) se gi vi sp un false to))
+        (divideAt (q .geometry) b k (length r) (stateOf q (search q (n ∷ r) se gi vi sp un false to)) w (partOf (shape q) (n .a))
+        (partOf (shape q) (n .b)) (depth (shape q) n)))
         (accepted q (divide (shape q) b k n r (search q (n ∷ r) se gi vi sp un false to))) (search q (n ∷ r) se gi vi sp un false to) w
     divide-sim true k e f c = give-sim
     divide-sim false zero e f c = stop-sim (divide-numbers false zero e c)
@@ -389,8 +478,12 @@ module _ (q : Asked) (low : (w : ℕ) (l : List Float) → length l ≡ 4 * w �
 
     -- the top node's parts and depth, as read
     at-parts : (F : Piece → Piece → ℕ → Stepping) (R' : Ruled q)
-        → StepSim q (stepOutcome (stateOf q (search q (n ∷ r) se gi vi sp un false to)) (F (partOf (shape q) (n .a)) (partOf (shape q) (n .b)) (depth (shape q) n))) R' (search q (n ∷ r) se gi vi sp un false to) w
-        → StepSim q (stepOutcome (stateOf q (search q (n ∷ r) se gi vi sp un false to)) (F (part1 (stateOf q (search q (n ∷ r) se gi vi sp un false to)) w (length r)) (part2 (stateOf q (search q (n ∷ r) se gi vi sp un false to)) w (length r)) (depthAt (w .depths) (length r)))) R' (search q (n ∷ r) se gi vi sp un false to) w
+        → StepSim q (stepOutcome (stateOf q (search q (n ∷ r) se gi vi sp un false to))
+        (F (partOf (shape q) (n .a)) (partOf (shape q) (n .b)) (depth (shape q) n))) R' (search q (n ∷ r) se gi vi sp un false to) w
+        → StepSim q (stepOutcome (stateOf q (search q (n ∷ r) se gi vi sp un false to))
+        (F (part1 (stateOf q (search q (n ∷ r) se gi vi sp un false to)) w (length r))
+        (part2 (stateOf q (search q (n ∷ r) se gi vi sp un false to)) w (length r)) (depthAt (w .depths) (length r)))) R'
+        (search q (n ∷ r) se gi vi sp un false to) w
     at-parts F R' h =
         let m = search q (n ∷ r) se gi vi sp un false to in
         let z = H .nodes .0 in
@@ -398,16 +491,21 @@ module _ (q : Asked) (low : (w : ℕ) (l : List Float) → length l ≡ 4 * w �
         (λ i. F (sym (part1-is q m w (length r) n z) i) (sym (part2-is q m w (length r) n z) i) (sym (depth-is q w (length r) n z) i))
         h
 
-    act-sim : (v : Verdict) → StepSim q (stepOutcome (stateOf q (search q (n ∷ r) se gi vi sp un false to)) (actOn (q .geometry) (suc (length r)) v (stateOf q (search q (n ∷ r) se gi vi sp un false to)) w))
+    act-sim : (v : Verdict)
+        → StepSim q (stepOutcome (stateOf q (search q (n ∷ r) se gi vi sp un false to))
+        (actOn (q .geometry) (suc (length r)) v (stateOf q (search q (n ∷ r) se gi vi sp un false to)) w))
         (accepted q (advance (shape q) v (search q (n ∷ r) se gi vi sp un false to))) (search q (n ∷ r) se gi vi sp un false to) w
     act-sim Settled =
         let m = search q (n ∷ r) se gi vi sp un false to in
         moved refl refl (record { nodes = H .nodes .1; raw = H .raw }) refl R
         (record { counts = count-advance (shape q) (pairsOf q) Settled m (N .counts); allowance = N .allowance; visited = let v = N .visited in omega arith })
-    act-sim Unseparated = at-parts (λ p p' d. giveUpAt (q .geometry) (length r) (stateOf q (search q (n ∷ r) se gi vi sp un false to)) w p p') (accepted q (giveUp (shape q) n r (search q (n ∷ r) se gi vi sp un false to))) give-sim
+    act-sim Unseparated =
+        at-parts (λ p p' d. giveUpAt (q .geometry) (length r) (stateOf q (search q (n ∷ r) se gi vi sp un false to)) w p p')
+        (accepted q (giveUp (shape q) n r (search q (n ∷ r) se gi vi sp un false to))) give-sim
     act-sim Split =
         let m = search q (n ∷ r) se gi vi sp un false to in
-        at-parts (λ p p' d. divideAt (q .geometry) (leb limit d) un (length r) (stateOf q m) w p p' d) (accepted q (divide (shape q) (leb limit (depth (shape q) n)) un n r m))
+        at-parts (λ p p' d. divideAt (q .geometry) (leb limit d) un (length r) (stateOf q m) w p p' d)
+        (accepted q (divide (shape q) (leb limit (depth (shape q) n)) un n r m))
         (divide-sim (leb limit (depth (shape q) n)) un refl (nleb→lt limit (depth (shape q) n)) (count-advance (shape q) (pairsOf q) Split m (N .counts)))
 
 -- ---- the test of a state passes for a search
@@ -420,11 +518,13 @@ pub top-depth : (q : Asked) (w : Memory) (l : List (Node (shape q))) → AllStor
 top-depth q w [] z = tt
 top-depth q w (n ∷ r) z = z .0 .depth
 
-topFits-is : (q : Asked) (l : List (Node (shape q))) (w : Memory) → Deep (shape q) (pairsOf q) l → TopDepth q w l → T (topFits (pairsOf q) (length l) (topDepth (length l) (w .depths)))
+topFits-is : (q : Asked) (l : List (Node (shape q))) (w : Memory) → Deep (shape q) (pairsOf q) l → TopDepth q w l
+    → T (topFits (pairsOf q) (length l) (topDepth (length l) (w .depths)))
 topFits-is q [] w d z = tt
 topFits-is q (n ∷ r) w d z =
     subst (λ (x : ℕ). T (leb (suc (length r)) (pairsOf q + x) && leb x limit)) (sym (ap (λ (l : List ℕ). getD l 0 0) z))
-    (and-i (leb (suc (length r)) (pairsOf q + depth (shape q) n)) (leb (depth (shape q) n) limit) (le→leb (suc (length r)) (pairsOf q + depth (shape q) n) (d .0)) (le→leb (depth (shape q) n) limit (d .1)))
+    (and-i (leb (suc (length r)) (pairsOf q + depth (shape q) n)) (leb (depth (shape q) n) limit)
+    (le→leb (suc (length r)) (pairsOf q + depth (shape q) n) (d .0)) (le→leb (depth (shape q) n) limit (d .1)))
 
 one-at-most : (b : Bool) → cond b 1 0 ≤ 1
 one-at-most true = omega arith
@@ -443,20 +543,27 @@ is-search q m w N z =
     (le→leb (m .visits) (m .splits + length (m .settled) + length (m .given) + 1) (let v = N .visited in let h = one-at-most (m .stopped) in omega arith))))
 
 -- ---- a step on the memory that is lent
-module _ (q : Asked) (low : (w : ℕ) (l : List Float) → length l ≡ 4 * w → length (q .geometry .lowerNet l) ≡ 4 * w) (upp : (w : ℕ) (l : List Float) → length l ≡ 4 * w → length (q .geometry .upperNet l) ≡ 4 * w) where
+module _ (q : Asked) (low : (w : ℕ) (l : List Float) → length l ≡ 4 * w → length (q .geometry .lowerNet l) ≡ 4 * w)
+    (upp : (w : ℕ) (l : List Float) → length l ≡ 4 * w → length (q .geometry .upperNet l) ≡ 4 * w) where
   step-fields : (l : List (Node (shape q))) (se : List (Settling (shape q))) (gi : List (Node (shape q))) (vi sp un : ℕ) (st to : Bool) (w : Memory) (v : Verdict)
       → Numbers q (search q l se gi vi sp un st to) → (Room q (sizes w) → Held q (search q l se gi vi sp un st to) w)
-      → StepSim q (stepOutcome (stateOf q (search q l se gi vi sp un st to)) (stepDef (q .geometry) (stateOf q (search q l se gi vi sp un st to)) w v)) (ruleWith q (enough (needed (stateOf q (start q))) (sizes w)) v (search q l se gi vi sp un st to)) (search q l se gi vi sp un st to) w
+      → StepSim q
+      (stepOutcome (stateOf q (search q l se gi vi sp un st to)) (stepDef (q .geometry) (stateOf q (search q l se gi vi sp un st to)) w v))
+      (ruleWith q (enough (needed (stateOf q (start q))) (sizes w)) v (search q l se gi vi sp un st to)) (search q l se gi vi sp un st to) w
   step-fields l se gi vi sp un true to w v N H = unchanged refl refl refl refl
   step-fields [] se gi vi sp un false to w v N H = unchanged refl refl refl refl
-  step-fields (n ∷ r) se gi vi sp un false to w v N H = go (enough (needed (stateOf q (start q))) (sizes w)) (isSearch (stateOf q m) w) (room-of q (sizes w)) (λ (R : Room q (sizes w)). is-search q m w N (top-depth q w (m .stack) (H R .nodes)))
+  step-fields (n ∷ r) se gi vi sp un false to w v N H =
+      go (enough (needed (stateOf q (start q))) (sizes w)) (isSearch (stateOf q m) w) (room-of q (sizes w))
+      (λ (R : Room q (sizes w)). is-search q m w N (top-depth q w (m .stack) (H R .nodes)))
     where
       m : Search (shape q)
       m = search q (n ∷ r) se gi vi sp un false to
 
       go : (e s : Bool) → (T e → Room q (sizes w)) → (Room q (sizes w) → T s)
-          → StepSim q (stepOutcome (stateOf q (search q (n ∷ r) se gi vi sp un false to)) (cond (e && s) (actOn (q .geometry) (suc (length r)) v (stateOf q (search q (n ∷ r) se gi vi sp un false to)) w) (stepping NoRoom w)))
-          (cond e (accepted q (advance (shape q) v (search q (n ∷ r) se gi vi sp un false to))) (record { answer = stepped NoRoom; search = search q (n ∷ r) se gi vi sp un false to })) (search q (n ∷ r) se gi vi sp un false to) w
+          → StepSim q (stepOutcome (stateOf q (search q (n ∷ r) se gi vi sp un false to))
+          (cond (e && s) (actOn (q .geometry) (suc (length r)) v (stateOf q (search q (n ∷ r) se gi vi sp un false to)) w) (stepping NoRoom w)))
+          (cond e (accepted q (advance (shape q) v (search q (n ∷ r) se gi vi sp un false to)))
+          (record { answer = stepped NoRoom; search = search q (n ∷ r) se gi vi sp un false to })) (search q (n ∷ r) se gi vi sp un false to) w
       go false s f g = unchanged refl refl refl refl
       go true false f g = absurd (g (f tt))
       go true true f g = act-sim q low upp n r se gi vi sp un to w N (f tt) (H (f tt)) v

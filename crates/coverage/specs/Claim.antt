@@ -59,7 +59,9 @@ AllStored q u (n ∷ r) = Stored q u (length r) n × AllStored q u r
 -- ---- a report that is not refused
 -- the pair of stations lies in a piece pair set apart by its boxes, a settled node or a reported region
 abbrev pub Accounted : (q : Asked) → Search (shape q) → List Region → Float → Float → Type 0
-Accounted q m out s t = SetApart (shape q) (pieces1 q) (pieces2 q) s t ⊎ (Any (λ (e : Settling (shape q)). InNode (shape q) s t (e .node)) (m .settled) ⊎ Any (InRegion s t) out)
+Accounted q m out s t =
+    SetApart (shape q) (pieces1 q) (pieces2 q) s t ⊎
+    (Any (λ (e : Settling (shape q)). InNode (shape q) s t (e .node)) (m .settled) ⊎ Any (InRegion s t) out)
 
 -- the word w, the counts c, k regions, and the report slice afterwards
 pub record GoodReport (q : Asked) (m : Search (shape q)) (w : Word) (c : Counts) (k : ℕ) (slice : List Float) : Type 0 where

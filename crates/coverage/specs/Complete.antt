@@ -59,10 +59,16 @@ LoopEnds = (q : Question) (p1 p2 : List Float) (u : Memory) (x : State) → open
 
 -- if the report after the loop says complete, all is clear
 abbrev pub CompleteIsClear : Type 0
-CompleteIsClear = (q : Question) (p1 p2 : List Float) (u : Memory) (x y : State) → openDef q p1 p2 u .answer ≡ Open x → runDef geometry x (openDef q p1 p2 u .memory) .answer ≡ Next y
-    → (slice : List Float) (c : Counts) (k : ℕ) → reportDef geometry y (runDef geometry x (openDef q p1 p2 u .memory) .memory) slice .answer ≡ Told Complete c k → Clear (searchFor q)
+CompleteIsClear =
+    (q : Question) (p1 p2 : List Float) (u : Memory) (x y : State) → openDef q p1 p2 u .answer ≡ Open x
+    → runDef geometry x (openDef q p1 p2 u .memory) .answer ≡ Next y
+    → (slice : List Float) (c : Counts) (k : ℕ)
+    → reportDef geometry y (runDef geometry x (openDef q p1 p2 u .memory) .memory) slice .answer ≡ Told Complete c k → Clear (searchFor q)
 
 -- and the report into a slice as long as the raw regions' need is not refused
 abbrev pub LoopReports : Type 0
-LoopReports = (q : Question) (p1 p2 : List Float) (u : Memory) (x y : State) → openDef q p1 p2 u .answer ≡ Open x → runDef geometry x (openDef q p1 p2 u .memory) .answer ≡ Next y
-    → (slice : List Float) → x .pairs * suc (x .quota) * 10 ≤ length slice → Reports (searchFor q) (reportDef geometry y (runDef geometry x (openDef q p1 p2 u .memory) .memory) slice)
+LoopReports =
+    (q : Question) (p1 p2 : List Float) (u : Memory) (x y : State) → openDef q p1 p2 u .answer ≡ Open x
+    → runDef geometry x (openDef q p1 p2 u .memory) .answer ≡ Next y
+    → (slice : List Float) → x .pairs * suc (x .quota) * 10 ≤ length slice
+    → Reports (searchFor q) (reportDef geometry y (runDef geometry x (openDef q p1 p2 u .memory) .memory) slice)

@@ -21,7 +21,8 @@ use Rattle.facts.proofs.Rows.{firstRow, Met, InOrder, first-met, met-fi
 
 -- ---- the answer is the place of the first test that is true
 eleven : (b4 b5 b6 b7 b8 b9 b10 b11 b12 b13 b14 : Bool)
-    → admissionNumber (cond b4 InvalidDegree (cond b5 KnotCount (cond b6 KnotOutOfRange (cond b7 KnotsNotIncreasing (cond b8 MultiplicityTooLarge (cond b9 ZeroMultiplicity
+    → admissionNumber
+    (cond b4 InvalidDegree (cond b5 KnotCount (cond b6 KnotOutOfRange (cond b7 KnotsNotIncreasing (cond b8 MultiplicityTooLarge (cond b9 ZeroMultiplicity
     (cond b10 PoleCountMismatch (cond b11 PoleCountOutOfRange (cond b12 WeightCountMismatch (cond b13 WeightOutOfRange (cond b14 CoordinateOutOfRange Admitted)))))))))))
     ≡ firstRow 0 ((4, b4) ∷ (5, b5) ∷ (6, b6) ∷ (7, b7) ∷ (8, b8) ∷ (9, b9) ∷ (10, b10) ∷ (11, b11) ∷ (12, b12) ∷ (13, b13) ∷ (14, b14) ∷ [])
 eleven true b5 b6 b7 b8 b9 b10 b11 b12 b13 b14 = refl
@@ -40,14 +41,17 @@ eleven false false false false false false false false false false false = refl
 rows : Line → List (ℕ × Bool)
 rows l =
     (4, degreeOut (l .degree)) ∷ (5, knotCountOut (l .knots) (l .mults)) ∷ (6, knotOut (l .knots)) ∷ (7, notIncreasing (l .knots)) ∷ (8, tooLarge (l .degree) (l .mults))
-    ∷ (9, zeroMult (l .mults)) ∷ (10, poleMismatch (l .degree) (l .mults) (l .coords)) ∷ (11, poleCountOut (l .degree) (l .coords)) ∷ (12, weightMismatch (l .coords) (l .weights))
+    ∷ (9, zeroMult (l .mults)) ∷ (10, poleMismatch (l .degree) (l .mults) (l .coords)) ∷ (11, poleCountOut (l .degree) (l .coords)) ∷
+    (12, weightMismatch (l .coords) (l .weights))
     ∷ (13, weightOut (l .weights)) ∷ (14, coordOut (l .coords)) ∷ []
 
 number : (l : Line) → admissionNumber (admission l) ≡ firstRow 0 (rows l)
 unfolding rows validateDirection validatePoles
 number l =
-    eleven (degreeOut (l .degree)) (knotCountOut (l .knots) (l .mults)) (knotOut (l .knots)) (notIncreasing (l .knots)) (tooLarge (l .degree) (l .mults)) (zeroMult (l .mults))
-    (poleMismatch (l .degree) (l .mults) (l .coords)) (poleCountOut (l .degree) (l .coords)) (weightMismatch (l .coords) (l .weights)) (weightOut (l .weights)) (coordOut (l .coords))
+    eleven (degreeOut (l .degree)) (knotCountOut (l .knots) (l .mults)) (knotOut (l .knots)) (notIncreasing (l .knots))
+    (tooLarge (l .degree) (l .mults)) (zeroMult (l .mults))
+    (poleMismatch (l .degree) (l .mults) (l .coords)) (poleCountOut (l .degree) (l .coords)) (weightMismatch (l .coords) (l .weights))
+    (weightOut (l .weights)) (coordOut (l .coords))
 
 -- only Admitted has number 0
 zero-admitted : (a : Admission) → admissionNumber a ≡ 0 → a ≡ Admitted
@@ -83,7 +87,8 @@ module _ (l : Line) where
   test8 : Tests (Fault8 l) (tooLarge (l .degree) (l .mults))
   unfolding tooLarge
   test8 =
-      of-or3 (ltb (l .degree + 1) (getD (l .mults) 0 0)) (ltb (l .degree + 1) (getD (l .mults) (length (l .mults) - 1) 0)) (not (every (λ m. leb m (l .degree)) (inner (l .mults))))
+      of-or3 (ltb (l .degree + 1) (getD (l .mults) 0 0)) (ltb (l .degree + 1) (getD (l .mults) (length (l .mults) - 1) 0))
+      (not (every (λ m. leb m (l .degree)) (inner (l .mults))))
       (of-lt (l .degree + 1) (getD (l .mults) 0 0)) (of-lt (l .degree + 1) (getD (l .mults) (length (l .mults) - 1) 0))
       (of-any (λ m. l .degree < m) (λ m. leb m (l .degree)) (λ m. of-over m (l .degree)) (inner (l .mults)))
 
@@ -97,7 +102,8 @@ module _ (l : Line) where
   test10 : Tests (Fault10 l) (poleMismatch (l .degree) (l .mults) (l .coords))
   test10 =
       of-or (not (eqb (length (l .coords) % 3) 0)) (not (eqb (poles l + l .degree + 1) (total (l .mults))))
-      (of-not (eqb (length (l .coords) % 3) 0) (of-eq (length (l .coords) % 3) 0)) (of-not (eqb (poles l + l .degree + 1) (total (l .mults))) (of-eq (poles l + l .degree + 1) (total (l .mults))))
+      (of-not (eqb (length (l .coords) % 3) 0) (of-eq (length (l .coords) % 3) 0))
+      (of-not (eqb (poles l + l .degree + 1) (total (l .mults))) (of-eq (poles l + l .degree + 1) (total (l .mults))))
 
   test11 : Tests (Fault11 l) (poleCountOut (l .degree) (l .coords))
   test11 = of-or (ltb (poles l) (l .degree + 1)) (ltb 128 (poles l)) (of-lt (poles l) (l .degree + 1)) (of-lt 128 (poles l))
@@ -106,7 +112,9 @@ module _ (l : Line) where
   test12 = of-neither (eqb (length (l .weights)) 0) (eqb (length (l .weights)) (poles l)) (of-eq (length (l .weights)) 0) (of-eq (length (l .weights)) (poles l))
 
   test13 : Tests (Fault13 l) (weightOut (l .weights))
-  test13 = of-any (λ w. T (le one1024th w) × T (le w two10) → ⊥) (within one1024th two10) (λ w. of-not (within one1024th two10 w) (of-range one1024th two10 w)) (l .weights)
+  test13 =
+      of-any (λ w. T (le one1024th w) × T (le w two10) → ⊥) (within one1024th two10)
+      (λ w. of-not (within one1024th two10 w) (of-range one1024th two10 w)) (l .weights)
 
   test14 : Tests (Fault14 l) (coordOut (l .coords))
   test14 = of-any (λ x. Within (2 ^ 24) x → ⊥) (within (neg two24) two24) (λ x. of-not (within (neg two24) two24 x) (of-within24 x)) (l .coords)
@@ -129,7 +137,19 @@ module _ (l : Line) where
 
   apart : Apart 0 (rows l)
   unfolding rows
-  apart = (λ e. omega arith, (λ e. omega arith, (λ e. omega arith, (λ e. omega arith, (λ e. omega arith, (λ e. omega arith, (λ e. omega arith, (λ e. omega arith, (λ e. omega arith, (λ e. omega arith, (λ e. omega arith, tt)))))))))))
+  apart = (
+    λ e. omega arith,
+    (
+      λ e. omega arith,
+      (
+        λ e. omega arith,
+        (
+          λ e. omega arith,
+          (λ e. omega arith, (λ e. omega arith, (λ e. omega arith, (λ e. omega arith, (λ e. omega arith, (λ e. omega arith, (λ e. omega arith, tt))))))),
+        ),
+      ),
+    ),
+  )
 
   irreflexive : (k : ℕ) → k < k → ⊥
   irreflexive k h = omega arith

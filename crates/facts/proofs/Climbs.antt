@@ -82,4 +82,5 @@ sorted-at (x ∷ l) (suc i) (suc j) s n a b = sorted-at l i j (s .1) (λ k h. n 
 pub climbs : (ks : List Float) (ms : List ℕ) → eachTwo lt ks ≡ true → every (within (neg two20) two20) ks ≡ true
     → (i j : ℕ) → i ≤ j → j < length (flatKnots ks ms) → T (le (getD (flatKnots ks ms) i nan) (getD (flatKnots ks ms) j nan))
 climbs ks ms r f i j a b =
-    sorted-at (flatKnots ks ms) i j (sorted-flat ks ms r f) (λ k h. numbers-of _ (every-at (within (neg two20) two20) (flatKnots ks ms) k h (every-flat (within (neg two20) two20) ks ms f))) a b
+    sorted-at (flatKnots ks ms) i j (sorted-flat ks ms r f)
+    (λ k h. numbers-of _ (every-at (within (neg two20) two20) (flatKnots ks ms) k h (every-flat (within (neg two20) two20) ks ms f))) a b

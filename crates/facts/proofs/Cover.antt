@@ -62,7 +62,8 @@ unfolding cutsFrom between
 end-is p knots flat poles lo hi t [] = refl
 end-is p knots flat poles lo hi t (k ∷ ks) = go (inside lo hi k) (end-is p knots flat poles lo hi k ks) (end-is p knots flat poles lo hi t ks)
   where
-    go : (b : Bool) → endFrom k (cutsFrom p knots flat poles k (between lo hi ks (hi ∷ []))) ≡ hi → endFrom t (cutsFrom p knots flat poles t (between lo hi ks (hi ∷ []))) ≡ hi
+    go : (b : Bool) → endFrom k (cutsFrom p knots flat poles k (between lo hi ks (hi ∷ []))) ≡ hi
+        → endFrom t (cutsFrom p knots flat poles t (between lo hi ks (hi ∷ []))) ≡ hi
         → endFrom t (cutsFrom p knots flat poles t (cond b (k ∷ between lo hi ks (hi ∷ [])) (between lo hi ks (hi ∷ [])))) ≡ hi
     go true x y = x
     go false x y = y
@@ -111,7 +112,8 @@ chained p knots flat poles lo hi t (k ∷ ks) s e h =
     go : (b : Bool) → Fits k
         → (T (le k s) → Any (λ (q : Piece). InRange (q .lo) (q .hi) s) (piecesFrom k (cutsFrom p knots flat poles k (between lo hi ks (hi ∷ [])))))
         → Any (λ (q : Piece). InRange (q .lo) (q .hi) s) (piecesFrom t (cutsFrom p knots flat poles t (between lo hi ks (hi ∷ []))))
-        → Any (λ (q : Piece). InRange (q .lo) (q .hi) s) (piecesFrom t (cutsFrom p knots flat poles t (cond b (k ∷ between lo hi ks (hi ∷ [])) (between lo hi ks (hi ∷ [])))))
+        → Any (λ (q : Piece). InRange (q .lo) (q .hi) s)
+        (piecesFrom t (cutsFrom p knots flat poles t (cond b (k ∷ between lo hi ks (hi ∷ [])) (between lo hi ks (hi ∷ [])))))
     go true f on skip = elim (le-total s k (right-number t s (h .0)) (right-number (neg two20) k (f .0))) [ inl x ↦ inl (h .0, x) | inr y ↦ inr (on y) ]
     go false f on skip = skip
 
@@ -127,7 +129,9 @@ lt-le x y h = go (lt x y) (eq x y) h
 module _ (degree : ℕ) (knots : List Float) (mults : List ℕ) (lo hi : Float) (lm : length mults ≡ length knots) (room : degree + 1 ≤ total mults)
     (six : every (within (neg two20) two20) knots ≡ true) (fifteen : rangeFits (boundsOf degree knots mults) lo hi ≡ true) where
   flat-fits : (i : ℕ) → i < total mults → Fits (getD (flatKnots knots mults) i nan)
-  flat-fits i h = fits-of _ (every-at (within (neg two20) two20) (flatKnots knots mults) i (let l = length-flat knots mults lm in omega arith) (every-flat (within (neg two20) two20) knots mults six))
+  flat-fits i h =
+      fits-of _ (every-at (within (neg two20) two20) (flatKnots knots mults) i (let l = length-flat knots mults lm in omega arith)
+      (every-flat (within (neg two20) two20) knots mults six))
 
   range : T (lt lo hi) × T (le (getD (flatKnots knots mults) degree nan) lo) × T (le hi (getD (flatKnots knots mults) (total mults - degree - 1) nan))
   unfolding rangeFits boundsOf
@@ -140,7 +144,8 @@ module _ (degree : ℕ) (knots : List Float) (mults : List ℕ) (lo hi : Float) 
   lo-fits =
       let r = range in (
         le-trans-float (neg two20) (getD (flatKnots knots mults) degree nan) lo (flat-fits degree (omega arith) .0) (r .1),
-        le-trans-float lo hi two20 (lt-le lo hi (r .0)) (le-trans-float hi (getD (flatKnots knots mults) (total mults - degree - 1) nan) two20 (r .2) (flat-fits (total mults - degree - 1) (omega arith) .1)),
+        le-trans-float lo hi two20 (lt-le lo hi (r .0))
+            (le-trans-float hi (getD (flatKnots knots mults) (total mults - degree - 1) nan) two20 (r .2) (flat-fits (total mults - degree - 1) (omega arith) .1)),
       )
 
   hi-fits : Fits hi
@@ -162,16 +167,21 @@ module _ (degree : ℕ) (knots : List Float) (mults : List ℕ) (lo hi : Float) 
       go false f a = a
 
   -- Each break lies within 2^20, and each net has four numbers a point.
-  fine : (flat poles : List Float) → Within (2 ^ 20) lo × All (λ (c : Cut). Within (2 ^ 20) (c .to) × (length (c .net) ≡ 4 * (degree + 1))) (cutsFrom degree knots flat poles lo (between lo hi knots (hi ∷ [])))
+  fine : (flat poles : List Float)
+      → Within (2 ^ 20) lo
+      × All (λ (c : Cut). Within (2 ^ 20) (c .to) × (length (c .net) ≡ 4 * (degree + 1)))
+      (cutsFrom degree knots flat poles lo (between lo hi knots (hi ∷ [])))
   unfolding cutsFrom
   fine flat poles = (fits-within lo lo-fits, go lo (between lo hi knots (hi ∷ [])) (between-fits knots six))
     where
-      go : (t : Float) (ts : List Float) → All Fits ts → All (λ (c : Cut). Within (2 ^ 20) (c .to) × (length (c .net) ≡ 4 * (degree + 1))) (cutsFrom degree knots flat poles t ts)
+      go : (t : Float) (ts : List Float) → All Fits ts
+          → All (λ (c : Cut). Within (2 ^ 20) (c .to) × (length (c .net) ≡ 4 * (degree + 1))) (cutsFrom degree knots flat poles t ts)
       go t [] a = tt
       go t (t1 ∷ ts) a = ((fits-within t1 (a .0), length-net degree knots flat poles t t1), go t1 ts (a .1))
 
   -- Every float of the asked range lies in some piece's range.
-  covered : (flat poles : List Float) (s : Float) → InRange lo hi s → Any (λ (p : Piece). InRange (p .lo) (p .hi) s) (piecesFrom lo (cutsFrom degree knots flat poles lo (between lo hi knots (hi ∷ []))))
+  covered : (flat poles : List Float) (s : Float) → InRange lo hi s
+      → Any (λ (p : Piece). InRange (p .lo) (p .hi) s) (piecesFrom lo (cutsFrom degree knots flat poles lo (between lo hi knots (hi ∷ []))))
   covered flat poles s h = chained degree knots flat poles lo hi lo knots s six h
 
 -- ---- of an admitted line and a range that fits
@@ -218,6 +228,7 @@ module _ (l : Line) (lo hi : Float) where
   -- piece i, read from them with anything behind, is the net of breaks i and i + 1
   pub piece-at : (rest : List Float) (i : ℕ) → i + 1 < length (breaksOf lo hi (l .knots))
       → block (4 * (l .degree + 1)) i (piecesOf (l .degree) (l .knots) (l .mults) (l .coords) (l .weights) lo hi ++ rest)
-      ≡ netOf (l .degree) (l .knots) (flatKnots (l .knots) (l .mults)) (homogeneousPoles (l .coords) (l .weights) (length (l .coords) / 3) 0) (getD (breaksOf lo hi (l .knots)) i nan) (getD (breaksOf lo hi (l .knots)) (i + 1) nan)
+      ≡ netOf (l .degree) (l .knots) (flatKnots (l .knots) (l .mults)) (homogeneousPoles (l .coords) (l .weights) (length (l .coords) / 3) 0)
+      (getD (breaksOf lo hi (l .knots)) i nan) (getD (breaksOf lo hi (l .knots)) (i + 1) nan)
   unfolding piecesOf
   piece-at rest i h = net-at (l .degree) (l .knots) _ _ (breaksOf lo hi (l .knots)) rest i h

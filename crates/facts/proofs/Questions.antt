@@ -23,8 +23,10 @@ use Rattle.facts.proofs.Rows.{firstRow, Met, InOrder, Apart, first-met,
 
 six : (a b c d e f : Bool)
     → _≡_ {A = ℕ × ℕ} (
-      askedNumber (cond a (RangeOutOfBounds 1) (cond b (RangeOutOfBounds 2) (cond c GapOutOfRange (cond d TooManySplits (cond e (BreaksTooClose 1) (cond f (BreaksTooClose 2) Fine)))))),
-      askedLine (cond a (RangeOutOfBounds 1) (cond b (RangeOutOfBounds 2) (cond c GapOutOfRange (cond d TooManySplits (cond e (BreaksTooClose 1) (cond f (BreaksTooClose 2) Fine)))))),
+      askedNumber
+          (cond a (RangeOutOfBounds 1) (cond b (RangeOutOfBounds 2) (cond c GapOutOfRange (cond d TooManySplits (cond e (BreaksTooClose 1) (cond f (BreaksTooClose 2) Fine)))))),
+      askedLine
+          (cond a (RangeOutOfBounds 1) (cond b (RangeOutOfBounds 2) (cond c GapOutOfRange (cond d TooManySplits (cond e (BreaksTooClose 1) (cond f (BreaksTooClose 2) Fine)))))),
     )
     (firstRow (0, 0) (((15, 1), a) ∷ ((15, 2), b) ∷ ((16, 0), c) ∷ ((17, 0), d) ∷ ((18, 1), e) ∷ ((18, 2), f) ∷ []))
 six true b c d e f = refl
@@ -44,7 +46,8 @@ rows q =
 number : (q : Question) → askedPlace q ≡ firstRow (0, 0) (rows q)
 unfolding rows askWithin
 number q =
-    six (not (rangeFits (bounds (q .line1)) (q .lo1) (q .hi1))) (not (rangeFits (bounds (q .line2)) (q .lo2) (q .hi2))) (not (within zero64 two24 (q .gap))) (ltb 256 (q .splits))
+    six (not (rangeFits (bounds (q .line1)) (q .lo1) (q .hi1))) (not (rangeFits (bounds (q .line2)) (q .lo2) (q .hi2)))
+    (not (within zero64 two24 (q .gap))) (ltb 256 (q .splits))
     (not (eachTwo parted (breaksOf (q .lo1) (q .hi1) (q .line1 .knots)))) (not (eachTwo parted (breaksOf (q .lo2) (q .hi2) (q .line2 .knots))))
 
 -- ---- each test decides its row's sentence
@@ -85,7 +88,9 @@ test18 : (l : Line) (lo hi : Float) → Tests (Fault18 l lo hi) (not (eachTwo pa
 unfolding parted
 test18 l lo hi =
     of-two (λ t0 t1. T (lt t0 (middle t0 t1)) × T (lt (middle t0 t1) t1) → ⊥) parted
-    (λ t0 t1. of-not (parted t0 t1) (of-both (lt t0 (middle t0 t1)) (lt (middle t0 t1) t1) (of-T (lt t0 (middle t0 t1))) (of-T (lt (middle t0 t1) t1)))) (breaksOf lo hi (l .knots))
+    (λ t0 t1. of-not (parted t0 t1)
+    (of-both (lt t0 (middle t0 t1)) (lt (middle t0 t1) t1) (of-T (lt t0 (middle t0 t1))) (of-T (lt (middle t0 t1) t1))))
+    (breaksOf lo hi (l .knots))
 
 -- ---- the order of the places
 irreflexive : (k : ℕ × ℕ) → Earlier k k → ⊥
@@ -107,8 +112,13 @@ some-number n k h e f = let z : k .0 ≡ 0 = ap (λ p. p .0) f in omega arith
 
 apart : (q : Question) → Apart (0, 0) (rows q)
 unfolding rows
-apart q =
-    (some-number 15 _ (lit< tt) refl, (some-number 15 _ (lit< tt) refl, (some-number 16 _ (lit< tt) refl, (some-number 17 _ (lit< tt) refl, (some-number 18 _ (lit< tt) refl, (some-number 18 _ (lit< tt) refl, tt))))))
+apart q = (
+  some-number 15 _ (lit< tt) refl,
+  (
+    some-number 15 _ (lit< tt) refl,
+    (some-number 16 _ (lit< tt) refl, (some-number 17 _ (lit< tt) refl, (some-number 18 _ (lit< tt) refl, (some-number 18 _ (lit< tt) refl, tt)))),
+  ),
+)
 
 fine-place : (a : Asked) → _≡_ {A = ℕ × ℕ} (askedNumber a, askedLine a) (0, 0) → a ≡ Fine
 fine-place Fine e = refl
@@ -121,13 +131,15 @@ module _ (q : Question) (ok1 : admission (q .line1) ≡ Admitted) (ok2 : admissi
   met : (n : ℕ × ℕ) → QuestionFault n q → Met n (rows q)
   unfolding rows
   met n =
-      row (test15 (q .line1) (q .lo1) (q .hi1) ok1) (row (test15 (q .line2) (q .lo2) (q .hi2) ok2) (row (test16 (q .gap)) (row (of-lt 256 (q .splits)) (row (test18 (q .line1) (q .lo1) (q .hi1))
+      row (test15 (q .line1) (q .lo1) (q .hi1) ok1) (row (test15 (q .line2) (q .lo2) (q .hi2) ok2)
+      (row (test16 (q .gap)) (row (of-lt 256 (q .splits)) (row (test18 (q .line1) (q .lo1) (q .hi1))
       (λ x. inl (x .0, test18 (q .line2) (q .lo2) (q .hi2) .holds (x .1)))))))
 
   of-met : (n : ℕ × ℕ) → Met n (rows q) → QuestionFault n q
   unfolding rows
   of-met n =
-      of-row (test15 (q .line1) (q .lo1) (q .hi1) ok1) (of-row (test15 (q .line2) (q .lo2) (q .hi2) ok2) (of-row (test16 (q .gap)) (of-row (of-lt 256 (q .splits)) (of-row (test18 (q .line1) (q .lo1) (q .hi1))
+      of-row (test15 (q .line1) (q .lo1) (q .hi1) ok1) (of-row (test15 (q .line2) (q .lo2) (q .hi2) ok2)
+      (of-row (test16 (q .gap)) (of-row (of-lt 256 (q .splits)) (of-row (test18 (q .line1) (q .lo1) (q .hi1))
       (λ s. elim s [ inl x ↦ (x .0, test18 (q .line2) (q .lo2) (q .hi2) .yes (x .1)) | inr y ↦ absurd y ])))))
 
   -- ---- the theorem, for a refusal

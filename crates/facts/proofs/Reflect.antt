@@ -74,7 +74,8 @@ of-two R t f [] = record { yes = λ e. absurd (never e); holds = λ h. absurd h 
 of-two R t f (x ∷ []) = record { yes = λ e. absurd (never e); holds = λ h. absurd h }
 of-two R t f (x ∷ y ∷ l) = go (t x y) (f x y) (of-two R t f (y ∷ l))
   where
-    go : (b : Bool) → Tests (R x y) (not b) → Tests (AnyTwo R (y ∷ l)) (not (eachTwo t (y ∷ l))) → Tests (R x y ⊎ AnyTwo R (y ∷ l)) (not (cond b (eachTwo t (y ∷ l)) false))
+    go : (b : Bool) → Tests (R x y) (not b) → Tests (AnyTwo R (y ∷ l)) (not (eachTwo t (y ∷ l)))
+        → Tests (R x y ⊎ AnyTwo R (y ∷ l)) (not (cond b (eachTwo t (y ∷ l)) false))
     go true h r = record { yes = λ e. inr (r .yes e); holds = λ s. elim s [ inl p ↦ absurd (never (h .holds p)) | inr q ↦ r .holds q ] }
     go false h r = record { yes = λ e. inl (h .yes e); holds = λ s. refl }
 

@@ -51,7 +51,8 @@ module _ {K : Type 0} (R : K → K → Type 0) (irreflexive : (k : K) → R k k 
             → (((k ≡ n) × (b ≡ true)) ⊎ Met n l) × ((j : K) → R j n → ((k ≡ j) × (b ≡ true)) ⊎ Met j l → ⊥)
         go true eb e f = (
           inl (e, eb),
-          λ j r s. elim s [ inl m ↦ irreflexive n (subst (λ z. R z n) (sym (m .0) ∙ e) r) | inr m ↦ irreflexive n (transitive n j n (subst (λ z. R z j) e (later (k, b) l j o m)) r) ],
+          λ j r s. elim s
+              [ inl m ↦ irreflexive n (subst (λ z. R z n) (sym (m .0) ∙ e) r) | inr m ↦ irreflexive n (transitive n j n (subst (λ z. R z j) e (later (k, b) l j o m)) r) ],
         )
         go false eb e f =
             let g = f e in

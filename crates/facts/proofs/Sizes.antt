@@ -29,11 +29,15 @@ of-size k (fin true m e) h = (to-fin true 1 (pos k) true m e (omega arith), to-f
 
 pub of-within20 : (x : Float) → Tests (Within (2 ^ 20) x) (within (neg two20) two20 x)
 unfolding within ofBits neg
-of-within20 x = same (sized 20 x) (of-size 20 x) (of-both (le (fin true 1 (pos 20)) x) (le x (fin false 1 (pos 20))) (of-T (le (fin true 1 (pos 20)) x)) (of-T (le x (fin false 1 (pos 20)))))
+of-within20 x =
+    same (sized 20 x) (of-size 20 x)
+    (of-both (le (fin true 1 (pos 20)) x) (le x (fin false 1 (pos 20))) (of-T (le (fin true 1 (pos 20)) x)) (of-T (le x (fin false 1 (pos 20)))))
 
 pub of-within24 : (x : Float) → Tests (Within (2 ^ 24) x) (within (neg two24) two24 x)
 unfolding within ofBits neg
-of-within24 x = same (sized 24 x) (of-size 24 x) (of-both (le (fin true 1 (pos 24)) x) (le x (fin false 1 (pos 24))) (of-T (le (fin true 1 (pos 24)) x)) (of-T (le x (fin false 1 (pos 24)))))
+of-within24 x =
+    same (sized 24 x) (of-size 24 x)
+    (of-both (le (fin true 1 (pos 24)) x) (le x (fin false 1 (pos 24))) (of-T (le (fin true 1 (pos 24)) x)) (of-T (le x (fin false 1 (pos 24)))))
 
 pub of-range : (lo hi x : Float) → Tests (T (le lo x) × T (le x hi)) (within lo hi x)
 unfolding within

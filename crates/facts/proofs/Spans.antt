@@ -26,7 +26,8 @@ unfolding reachOf
 reach-in zero s u l = (omega arith, omega arith)
 reach-in (suc n) s u l = go (le (getD l (s + 1) nan) u) (reach-in n (suc s) u l)
   where
-    go : (b : Bool) → (suc s ≤ reachOf n (suc s) u l) × (reachOf n (suc s) u l ≤ suc s + n) → (s ≤ cond b (reachOf n (suc s) u l) s) × (cond b (reachOf n (suc s) u l) s ≤ s + suc n)
+    go : (b : Bool) → (suc s ≤ reachOf n (suc s) u l) × (reachOf n (suc s) u l ≤ suc s + n)
+        → (s ≤ cond b (reachOf n (suc s) u l) s) × (cond b (reachOf n (suc s) u l) s ≤ s + suc n)
     go true h = (omega arith, omega arith)
     go false h = (omega arith, omega arith)
 
@@ -35,7 +36,8 @@ unfolding reachOf
 reach-low zero s u l h = h
 reach-low (suc n) s u l h = go (le (getD l (s + 1) nan) u) refl (reach-low n (suc s) u l)
   where
-    go : (b : Bool) → le (getD l (s + 1) nan) u ≡ b → (T (le (getD l (suc s) nan) u) → T (le (getD l (reachOf n (suc s) u l) nan) u)) → T (le (getD l (cond b (reachOf n (suc s) u l) s) nan) u)
+    go : (b : Bool) → le (getD l (s + 1) nan) u ≡ b → (T (le (getD l (suc s) nan) u) → T (le (getD l (reachOf n (suc s) u l) nan) u))
+        → T (le (getD l (cond b (reachOf n (suc s) u l) s) nan) u)
     go true e on = let q : s + 1 ≡ suc s = omega arith in on (is-true _ (rw q at e))
     go false e on = h
 
@@ -44,7 +46,8 @@ unfolding reachOf
 reach-high zero s u l h = absurd (omega arith)
 reach-high (suc n) s u l h = go (le (getD l (s + 1) nan) u) refl h (reach-high n (suc s) u l)
   where
-    go : (b : Bool) → le (getD l (s + 1) nan) u ≡ b → cond b (reachOf n (suc s) u l) s < s + suc n → (reachOf n (suc s) u l < suc s + n → le (getD l (reachOf n (suc s) u l + 1) nan) u ≡ false)
+    go : (b : Bool) → le (getD l (s + 1) nan) u ≡ b → cond b (reachOf n (suc s) u l) s < s + suc n
+        → (reachOf n (suc s) u l < suc s + n → le (getD l (reachOf n (suc s) u l + 1) nan) u ≡ false)
         → le (getD l (cond b (reachOf n (suc s) u l) s + 1) nan) u ≡ false
     go true e k on = on (omega arith)
     go false e k on = e
@@ -54,7 +57,8 @@ unfolding backOf
 back-stays zero lo l h = omega arith
 back-stays (suc n) lo l h = rw h refl
 
-module _ (p : ℕ) (flat : List Float) (u : Float) (room : 2 * p + 2 ≤ length flat) (low : T (le (getD flat p nan) u)) (high : le (getD flat (length flat - 1 - p) nan) u ≡ false) where
+module _ (p : ℕ) (flat : List Float) (u : Float) (room : 2 * p + 2 ≤ length flat) (low : T (le (getD flat p nan) u))
+    (high : le (getD flat (length flat - 1 - p) nan) u ≡ false) where
   reached : (T (le (getD flat (reachOf (length flat - (2 * p + 2)) p u flat) nan) u)) × (le (getD flat (reachOf (length flat - (2 * p + 2)) p u flat + 1) nan) u ≡ false)
   reached =
       let b = reach-in (length flat - (2 * p + 2)) p u flat in (

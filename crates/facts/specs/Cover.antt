@@ -18,7 +18,8 @@ cutsFrom p knots flat poles t0 (t1 ∷ ts) = record { to = t1; net = netOf p kno
 -- the cuts of a line over a range: at each knot strictly between, and at hi
 abbrev pub cutsOf : Line → Float → Float → List Cut
 cutsOf l lo hi =
-    cutsFrom (l .degree) (l .knots) (flatKnots (l .knots) (l .mults)) (homogeneousPoles (l .coords) (l .weights) (length (l .coords) / 3) 0) lo (between lo hi (l .knots) (hi ∷ []))
+    cutsFrom (l .degree) (l .knots) (flatKnots (l .knots) (l .mults)) (homogeneousPoles (l .coords) (l .weights) (length (l .coords) / 3) 0) lo
+    (between lo hi (l .knots) (hi ∷ []))
 
 -- the nets of the cuts, one after the other
 abbrev pub netsIn : List Cut → List Float

@@ -41,7 +41,8 @@ lt-not-le (fin s m e) (inf true) h k = absurd h
 lt-not-le (fin s m e) (inf false) h k = absurd k
 lt-not-le (fin false m e) (fin true n d) h k = absurd h
 lt-not-le (fin false m e) (fin false n d) h k = let a = ltb→lt (m * up e * down d) (n * up d * down e) h in let b = of-fin false n d false m e k in omega arith
-lt-not-le (fin true m e) (fin false n d) h k = let a = ltb→lt 0 (m * up e * down d + n * up d * down e) h in let b = of-fin false n d true m e k in omega (arith, b .0, b .1)
+lt-not-le (fin true m e) (fin false n d) h k =
+    let a = ltb→lt 0 (m * up e * down d + n * up d * down e) h in let b = of-fin false n d true m e k in omega (arith, b .0, b .1)
 lt-not-le (fin true m e) (fin true n d) h k = let a = ltb→lt (n * up d * down e) (m * up e * down d) h in let b = of-fin true n d true m e k in omega arith
 
 pub none-above : (y : Float) → T (lt (inf false) y) → ⊥
@@ -75,14 +76,16 @@ exact f m e t =
 held-le : (f : Format) (m : ℕ) (e : ℤ) (a c : ℕ) → T (fits f (fin false m e)) → 0 < c → m * up e * c ≤ a * down e → T (le (fin false m e) (round f false a c))
 held-le f m e a c t C h =
     le-trans-float (fin false m e) (round f false (m * up e) (down e)) (round f false a c)
-    (le-of-values (fin false m e) (round f false (m * up e) (down e)) (m * up e) (down e) (m * up e) (down e) (down-pos e) (down-pos e) (refl, refl) (exact f m e t) (omega arith))
+    (le-of-values (fin false m e) (round f false (m * up e) (down e)) (m * up e) (down e) (m * up e) (down e) (down-pos e) (down-pos e) (refl, refl)
+    (exact f m e t) (omega arith))
     (round-mono f (m * up e) (down e) a c (down-pos e) C h)
 
 le-held : (f : Format) (m : ℕ) (e : ℤ) (a c : ℕ) → T (fits f (fin false m e)) → 0 < c → a * down e ≤ m * up e * c → T (le (round f false a c) (fin false m e))
 le-held f m e a c t C h =
     le-trans-float (round f false a c) (round f false (m * up e) (down e)) (fin false m e)
     (round-mono f a c (m * up e) (down e) C (down-pos e) h)
-    (le-of-values (round f false (m * up e) (down e)) (fin false m e) (m * up e) (down e) (m * up e) (down e) (down-pos e) (down-pos e) (exact f m e t) (refl, refl) (omega arith))
+    (le-of-values (round f false (m * up e) (down e)) (fin false m e) (m * up e) (down e) (m * up e) (down e) (down-pos e) (down-pos e)
+    (exact f m e t) (refl, refl) (omega arith))
 
 -- ---- half way points and squares
 
@@ -103,7 +106,8 @@ above-square a b c d e g D h l =
 abbrev pub nil : Float
 nil = fin false 0 (pos 0)
 
-root-inside : (f : Format) (m : ℕ) (e : ℤ) (n : ℕ) (d : ℤ) → T (fits f (fin false m e)) → T (fits f (fin false n d)) → T (lt (fin false m e) (mul f (fin false n d) (fin false n d)))
+root-inside : (f : Format) (m : ℕ) (e : ℤ) (n : ℕ) (d : ℤ) → T (fits f (fin false m e)) → T (fits f (fin false n d))
+    → T (lt (fin false m e) (mul f (fin false n d) (fin false n d)))
     → T (le (rootIn f (fin false m e)) (fin false n d))
 unfolding mul
 root-inside f m e n d p q h =
@@ -143,10 +147,13 @@ unfolding mul
 square-not-less f nan m e h = absurd (unfold lt in h)
 square-not-less f (inf true) m e h = none-above (fin true m e) h
 square-not-less f (inf false) m e h = none-above (fin true m e) h
-square-not-less f (fin true n d) m e h = no-less (round f false (n * up d * (n * up d)) (down d * down d)) m e (round-sign-false f (n * up d * (n * up d)) (down d * down d)) h
-square-not-less f (fin false n d) m e h = no-less (round f false (n * up d * (n * up d)) (down d * down d)) m e (round-sign-false f (n * up d * (n * up d)) (down d * down d)) h
+square-not-less f (fin true n d) m e h =
+    no-less (round f false (n * up d * (n * up d)) (down d * down d)) m e (round-sign-false f (n * up d * (n * up d)) (down d * down d)) h
+square-not-less f (fin false n d) m e h =
+    no-less (round f false (n * up d * (n * up d)) (down d * down d)) m e (round-sign-false f (n * up d * (n * up d)) (down d * down d)) h
 
-root-outside : (f : Format) (m : ℕ) (e : ℤ) (r t : Float) → T (fits f (fin false m e)) → T (fits f t) → T (lt r t) → T (lt (mul f t t) (fin false m e)) → T (le (rootIn f (fin false m e)) r) → ⊥
+root-outside : (f : Format) (m : ℕ) (e : ℤ) (r t : Float) → T (fits f (fin false m e)) → T (fits f t) → T (lt r t)
+    → T (lt (mul f t t) (fin false m e)) → T (le (rootIn f (fin false m e)) r) → ⊥
 unfolding mul
 root-outside f m e r nan p q u h k = none-below-nan r u
 root-outside f m e r (inf true) p q u h k = none-above (fin false m e) h
@@ -180,7 +187,8 @@ pub is-false : (b : Bool) → (T b → ⊥) → b ≡ false
 is-false true h = absurd (h tt)
 is-false false h = refl
 
-pub inside-is : (x t : Float) → T (fits binary64 x) → T (fits binary64 t) → lt zero64 x ≡ true → lt zero64 t ≡ true → lt x (mul binary64 t t) ≡ true → true ≡ le (rootOf x) t
+pub inside-is : (x t : Float) → T (fits binary64 x) → T (fits binary64 t) → lt zero64 x ≡ true → lt zero64 t ≡ true → lt x (mul binary64 t t) ≡ true
+    → true ≡ le (rootOf x) t
 unfolding ofBits
 inside-is x t p q u v h = sym (is-true (le (rootOf x) t) (inside binary64 x t p q (subst T (sym u) tt) (subst T (sym v) tt) (subst T (sym h) tt)))
 
@@ -210,8 +218,12 @@ unfolding mul
 mul-square nan = tt
 mul-square (inf true) = refl
 mul-square (inf false) = refl
-mul-square (fin true m e) = of-not-below (round binary64 false (m * up e * (m * up e)) (down e * down e)) (round-sign-false binary64 (m * up e * (m * up e)) (down e * down e))
-mul-square (fin false m e) = of-not-below (round binary64 false (m * up e * (m * up e)) (down e * down e)) (round-sign-false binary64 (m * up e * (m * up e)) (down e * down e))
+mul-square (fin true m e) =
+    of-not-below (round binary64 false (m * up e * (m * up e)) (down e * down e))
+    (round-sign-false binary64 (m * up e * (m * up e)) (down e * down e))
+mul-square (fin false m e) =
+    of-not-below (round binary64 false (m * up e * (m * up e)) (down e * down e))
+    (round-sign-false binary64 (m * up e * (m * up e)) (down e * down e))
 
 add-square : (x y : Float) → Square x → Square y → Square (add binary64 x y)
 unfolding add sum
@@ -225,7 +237,9 @@ add-square (fin s m e) nan p q = tt
 add-square (fin s m e) (inf t) p q = q
 add-square (fin true m e) (fin t n d) p q = absurd (true≢false p)
 add-square (fin false m e) (fin true n d) p q = absurd (true≢false q)
-add-square (fin false m e) (fin false n d) p q = of-not-below (round binary64 false (m * up e * down d + n * up d * down e) (down e * down d)) (round-sign-false binary64 (m * up e * down d + n * up d * down e) (down e * down d))
+add-square (fin false m e) (fin false n d) p q =
+    of-not-below (round binary64 false (m * up e * down d + n * up d * down e) (down e * down d))
+    (round-sign-false binary64 (m * up e * down d + n * up d * down e) (down e * down d))
 
 pub dot-square : (a : Vector3D) → Square (dotOf a a)
 unfolding dotOf
@@ -250,11 +264,13 @@ unfolding normOf
 no-longer-is a b h =
     let l : T (le (dotOf a a) (dotOf b b)) = subst T (sym h) tt in
     let p = not-negative (dotOf a a) (dotOf b b) (dot-square a) l in
-    sym (is-true (le (rootOf (dotOf a a)) (rootOf (dotOf b b))) (root-mono binary64 (dotOf a a) (dotOf b b) (dot-fits a a) (dot-fits b b) p (le-trans-float nil (dotOf a a) (dotOf b b) p l) l))
+    sym (is-true (le (rootOf (dotOf a a)) (rootOf (dotOf b b)))
+    (root-mono binary64 (dotOf a a) (dotOf b b) (dot-fits a a) (dot-fits b b) p (le-trans-float nil (dotOf a a) (dotOf b b) p l) l))
 
 pub longer-is : (a b : Vector3D) (x y t u : Float) → x ≡ dotOf a a → y ≡ dotOf b b → T (fits binary64 t) → T (fits binary64 u)
     → lt zero64 y ≡ true → lt zero64 t ≡ true → lt y (mul binary64 t t) ≡ true → lt t u ≡ true → lt (mul binary64 u u) x ≡ true → false ≡ le (normOf a) (normOf b)
 unfolding normOf
 longer-is a b x y t u i j v w f g h k l =
-    roots-apart x y t u (subst (λ (z : Float). T (fits binary64 z)) (sym i) (dot-fits a a)) (subst (λ (z : Float). T (fits binary64 z)) (sym j) (dot-fits b b)) v w f g h k l
+    roots-apart x y t u (subst (λ (z : Float). T (fits binary64 z)) (sym i) (dot-fits a a))
+    (subst (λ (z : Float). T (fits binary64 z)) (sym j) (dot-fits b b)) v w f g h k l
     ∙ ap (λ z. le (rootOf z) (rootOf y)) i ∙ ap (λ z. le (rootOf (dotOf a a)) (rootOf z)) j

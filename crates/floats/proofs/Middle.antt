@@ -82,7 +82,8 @@ below-of-le C (fin false m e) (fin false n d) p q h = cancel (m * up e) (n * up 
 power-exact : (k : ℕ) → k ≤ 1023 → HasValue (round binary64 false (2 ^ k) 1) false (2 ^ k) 1
 power-exact k h =
     round-exact binary64 false (2 ^ k) 1 1 (low binary64 + k) (lit< tt) (lit< tt)
-    (subst (λ (z : ℕ). z < 2 ^ (low binary64 + suc (emax binary64))) (sym (one-mul (2 ^ (low binary64 + k)))) (pow-lt {i = low binary64 + k} {j = low binary64 + suc (emax binary64)} (omega arith)))
+    (subst (λ (z : ℕ). z < 2 ^ (low binary64 + suc (emax binary64))) (sym (one-mul (2 ^ (low binary64 + k))))
+    (pow-lt {i = low binary64 + k} {j = low binary64 + suc (emax binary64)} (omega arith)))
     (mul-comm (2 ^ k) (2 ^ low binary64) ∙ sym (pow-add 2 (low binary64) k) ∙ sym (one-mul (2 ^ (low binary64 + k))) ∙ sym (mul-one (1 * 2 ^ (low binary64 + k))))
 
 pub round-within : (k : ℕ) (s : Bool) (num den : ℕ) → k ≤ 1023 → 0 < den → num ≤ 2 ^ k * den → Within (2 ^ k) (round binary64 s num den)
@@ -122,7 +123,9 @@ pub half-within : (k : ℕ) (z : Float) → k < 1023 → Within (2 ^ suc k) z �
 unfolding mul ofBits
 half-within k nan K h = absurd h
 half-within k (inf s) K h = absurd h
-half-within k (fin t n d) K h = round-within k (unlike false t) (1 * up (negsuc 0) * (n * up d)) (down (negsuc 0) * down d) (omega arith) (mul-pos (lit< tt) (down-pos d)) (go (n * up d) (down d) h)
+half-within k (fin t n d) K h =
+    round-within k (unlike false t) (1 * up (negsuc 0) * (n * up d)) (down (negsuc 0) * down d) (omega arith) (mul-pos (lit< tt) (down-pos d))
+    (go (n * up d) (down d) h)
   where
     finish : (x p q r : ℕ) → x ≤ p → p ≡ q + q → r ≡ q * 2 → 1 * 1 * x ≤ r
     finish x p q r h e g = omega arith

@@ -36,13 +36,17 @@ of-test : (a b : ℕ) → T (ltb a b || (eqb a b && true)) → a ≤ b
 of-test a b t = elim (or-split (ltb a b) (eqb a b && true) t) [ inl u ↦ le-of-lt (ltb→lt a b u) | inr u ↦ le-of-eq (eqb→eq a b (and-l (eqb a b) true u)) ]
 
 to-test : (a b : ℕ) → a ≤ b → T (ltb a b || (eqb a b && true))
-to-test a b h = elim (eq-or-lt-of-le h) [ inl p ↦ or-r (ltb a b) (eqb a b && true) (and-i (eqb a b) true (eq→eqb p) tt) | inr q ↦ or-l (ltb a b) (eqb a b && true) (lt→ltb a b q) ]
+to-test a b h =
+    elim (eq-or-lt-of-le h)
+    [ inl p ↦ or-r (ltb a b) (eqb a b && true) (and-i (eqb a b) true (eq→eqb p) tt) | inr q ↦ or-l (ltb a b) (eqb a b && true) (lt→ltb a b q) ]
 
 pub of-fin : (s : Bool) (m : ℕ) (e : lib.IntN.ℤ) (t : Bool) (n : ℕ) (d : lib.IntN.ℤ) → T (le (fin s m e) (fin t n d)) → Le s (m * up e * down d) t (n * up d * down e)
 unfolding le
 of-fin false m e false n d h = of-test (m * up e * down d) (n * up d * down e) h
 of-fin false m e true n d h =
-    let a : m * up e * down d ≡ n * up d * down e = eqb→eq (m * up e * down d) (n * up d * down e) (and-l (eqb (m * up e * down d) (n * up d * down e)) (eqb (m * up e * down d) 0) h) in
+    let a : m * up e * down d
+    ≡ n * up d * down e = eqb→eq (m * up e * down d) (n * up d * down e)
+    (and-l (eqb (m * up e * down d) (n * up d * down e)) (eqb (m * up e * down d) 0) h) in
     let b : m * up e * down d ≡ 0 = eqb→eq (m * up e * down d) 0 (and-r (eqb (m * up e * down d) (n * up d * down e)) (eqb (m * up e * down d) 0) h) in
     (b, sym a ∙ b)
 of-fin true m e false n d h = tt
@@ -65,7 +69,12 @@ to-fin true m e false n d h = go (m * up e * down d) (n * up d * down e)
 to-fin true m e true n d h = go (m * up e * down d) (n * up d * down e) h
   where
     go : (a b : ℕ) → b ≤ a → T (ltb b a || (eqb a b && true))
-    go a b h = elim (eq-or-lt-of-le h) [ inl p ↦ or-r (ltb b a) (eqb a b && true) (and-i (eqb a b) true (eq→eqb (sym p)) tt) | inr q ↦ or-l (ltb b a) (eqb a b && true) (lt→ltb b a q) ]
+    go a b h =
+        elim (eq-or-lt-of-le h) [
+          | inl p ↦ or-r (ltb b a) (eqb a b && true) (and-i (eqb a b) true (eq→eqb (sym p)) tt)
+          | inr q ↦ or-l (ltb b a)
+              (eqb a b && true) (lt→ltb b a q)
+        ]
 
 -- ---- total and reflexive
 le-or : (a b : ℕ) → (a ≤ b) ⊎ (b ≤ a)
@@ -88,10 +97,12 @@ le-total (inf false) (fin t n d) p q = inr tt
 le-total (fin s m e) nan p q = absurd q
 le-total (fin s m e) (inf true) p q = inr tt
 le-total (fin s m e) (inf false) p q = inl tt
-le-total (fin false m e) (fin false n d) p q = elim (le-or (m * up e * down d) (n * up d * down e)) [ inl h ↦ inl (to-fin false m e false n d h) | inr h ↦ inr (to-fin false n d false m e h) ]
+le-total (fin false m e) (fin false n d) p q =
+    elim (le-or (m * up e * down d) (n * up d * down e)) [ inl h ↦ inl (to-fin false m e false n d h) | inr h ↦ inr (to-fin false n d false m e h) ]
 le-total (fin false m e) (fin true n d) p q = inr (to-fin true n d false m e tt)
 le-total (fin true m e) (fin false n d) p q = inl (to-fin true m e false n d tt)
-le-total (fin true m e) (fin true n d) p q = elim (le-or (m * up e * down d) (n * up d * down e)) [ inl h ↦ inr (to-fin true n d true m e h) | inr h ↦ inl (to-fin true m e true n d h) ]
+le-total (fin true m e) (fin true n d) p q =
+    elim (le-or (m * up e * down d) (n * up d * down e)) [ inl h ↦ inr (to-fin true n d true m e h) | inr h ↦ inl (to-fin true m e true n d h) ]
 
 pub le-self : (x : Float) → Number x → T (le x x)
 le-self x p = elim (le-total x x p p) [ inl h ↦ h | inr h ↦ h ]

@@ -118,7 +118,9 @@ module _ (f : Format) (p n c q m d : ℕ) (C : 0 < c) (D : 0 < d) (h : p * d + m
       go true true a b u v =
           rw (round-neg f (n - p) c, round-neg f (m - q) d)
           (neg-le (round f false (m - q) d) (round f false (n - p) c) (round-mono f (m - q) d (n - p) c D C (below (le-of-lt (a tt)) (le-of-lt (u tt)))))
-      go true false a b u v = rw (round-neg f (n - p) c) (neg-below (round f false (n - p) c) (round f false (q - m) d) (round-sign-false f (n - p) c) (round-sign-false f (q - m) d))
+      go true false a b u v =
+          rw (round-neg f (n - p) c)
+          (neg-below (round f false (n - p) c) (round f false (q - m) d) (round-sign-false f (n - p) c) (round-sign-false f (q - m) d))
       go false true a b u v = absurd (crossed (b tt) (u tt))
       go false false a b u v = round-mono f (p - n) c (q - m) d C D (above (b tt) (v tt))
 
@@ -184,7 +186,9 @@ sum-alike f true a false b c C = go (ltb a b) (ltb b a) (ltb→lt a b) (nltb→l
     go true true g h j k = absurd (let u = g tt in let v = j tt in omega arith)
     go true false g h j k = same f false (b - a) c
     go false true g h j k = same f true (a - b) c
-    go false false g h j k = subst (λ (z : ℕ). Alike (round f false (a - b) c) (round f false z c)) (let u = h tt in let v = k tt in let w : a - b ≡ b - a = omega arith in w) (same f false (a - b) c)
+    go false false g h j k =
+        subst (λ (z : ℕ). Alike (round f false (a - b) c) (round f false z c))
+        (let u = h tt in let v = k tt in let w : a - b ≡ b - a = omega arith in w) (same f false (a - b) c)
 sum-alike f true a true b c C = go (ltb 0 (a + b)) (nltb→le 0 (a + b))
   where
     go : (x : Bool) → (T (not x) → a + b ≤ 0) → Alike (round f true (a + b) c) (cond x (round f true (a + b - 0) c) (round f false (0 - (a + b)) c))
@@ -333,7 +337,8 @@ mul-nil-le f (fin true (suc m) e) (inf false) u v h = absurd (none (of-fin false
     none : suc m * up e * 1 ≡ 0 → ⊥
     none g = let w : 0 < suc m * up e = mul-pos (let z : 0 < suc m = omega arith in z) (up-pos e) in omega arith
 mul-nil-le f (fin s m e) (fin true k d) u v h = absurd (true≢false v)
-mul-nil-le f (fin false m e) (fin false k d) u v h = nil-le (round f false (m * up e * (k * up d)) (down e * down d)) (round-sign-false f (m * up e * (k * up d)) (down e * down d))
+mul-nil-le f (fin false m e) (fin false k d) u v h =
+    nil-le (round f false (m * up e * (k * up d)) (down e * down d)) (round-sign-false f (m * up e * (k * up d)) (down e * down d))
 mul-nil-le f (fin true m e) (fin false k d) u v h =
     let c = down e * down d in
     let C = mul-pos (down-pos e) (down-pos d) in
@@ -364,7 +369,8 @@ sum-number f b (inf s) z h = tt
 sum-number f b (fin s m e) z h = tt
 
 -- what isn't more than b isn't more than b and the gap's share of the length
-pub reach-not-less : (a : Vector3D) (gap b z : Float) → le zero64 gap ≡ true → lt (add binary64 b zero64) z ≡ false → lt (add binary64 b (mul binary64 gap (normOf a))) z ≡ false
+pub reach-not-less : (a : Vector3D) (gap b z : Float) → le zero64 gap ≡ true → lt (add binary64 b zero64) z ≡ false
+    → lt (add binary64 b (mul binary64 gap (normOf a))) z ≡ false
 unfolding ofBits
 reach-not-less a gap b z u h =
     is-false (lt (add binary64 b (mul binary64 gap (normOf a))) z)

@@ -60,7 +60,8 @@ flat-turn ks ms out out' at i m lk lm h em e =
     let q : at + m ≡ length (take at out) + m = omega arith in
     let a : take (at + m) out' ≡ take at out ++ repeated m (getD ks i nan) [] =
     ap (take (at + m)) e ∙ ap (λ n. take n (take at out ++ repeated m (getD ks i nan) (drop (at + m) out))) q
-    ∙ take-append-add (take at out) (repeated m (getD ks i nan) (drop (at + m) out)) m ∙ ap (λ z. take at out ++ z) (take-repeated m (getD ks i nan) (drop (at + m) out)) in
+    ∙ take-append-add (take at out) (repeated m (getD ks i nan) (drop (at + m) out)) m
+    ∙ ap (λ z. take at out ++ z) (take-repeated m (getD ks i nan) (drop (at + m) out)) in
     rw (a, append-assoc, repeated-append m (getD ks i nan) (flatKnots (drop (i + 1) ks) (drop (i + 1) ms)), drop-cons ks i nan lk, drop-cons ms i 0 lm, add-one, em) refl
 
 pub flat-done : (ks : List Float) (ms : List ℕ) (out r : List Float) (at i : ℕ) → length ks ≤ i → take at out ++ flatKnots (drop i ks) (drop i ms) ≡ r → take at out ≡ r
@@ -83,7 +84,8 @@ flat-rest k out out' out₀ at m h e f =
 at-start : (n i : ℕ) (f l : List Float) → take n f ≡ l → i < n → getD f i nan ≡ getD l i nan
 at-start n i f l e h = sym (getD-take n f i nan h) ∙ ap (λ z. getD z i nan) e
 
-pub bounds-are : (degree : ℕ) (knots : List Float) (mults : List ℕ) (f : List Float) (n d : ℕ) → n ≡ total mults → d ≡ degree → take n f ≡ flatKnots knots mults → degree + 1 ≤ total mults
+pub bounds-are : (degree : ℕ) (knots : List Float) (mults : List ℕ) (f : List Float) (n d : ℕ) → n ≡ total mults → d ≡ degree
+    → take n f ≡ flatKnots knots mults → degree + 1 ≤ total mults
     → _≡_ {A = Interval} (record { lo = getD f d nan; hi = getD f (n - d - 1) nan }) (boundsOf degree knots mults)
 unfolding boundsOf
 bounds-are degree knots mults f n d en ed ef h =
@@ -99,11 +101,14 @@ pub breaks-turn : (lo hi : Float) (ks t s : List Float) (n i r : ℕ) → i < le
 unfolding between
 breaks-turn lo hi ks t s n i r lk h e = rw (drop-cons ks i nan lk, e, add-one i) (go (inside lo hi (getD ks i nan)))
   where
-    go : (b : Bool) → take (n + cond b 1 0) (set s n (getD ks i nan)) ++ between lo hi (drop (suc i) ks) t ≡ take n s ++ cond b (getD ks i nan ∷ between lo hi (drop (suc i) ks) t) (between lo hi (drop (suc i) ks) t)
+    go : (b : Bool)
+        → take (n + cond b 1 0) (set s n (getD ks i nan)) ++ between lo hi (drop (suc i) ks) t
+        ≡ take n s ++ cond b (getD ks i nan ∷ between lo hi (drop (suc i) ks) t) (between lo hi (drop (suc i) ks) t)
     go true = rw (add-one, take-suc-set s n (getD ks i nan) h, append-assoc) refl
     go false = rw (add-zero, take-set-le n s n (getD ks i nan) (omega arith)) refl
 
-pub breaks-done : (lo hi : Float) (ks s r : List Float) (n i : ℕ) → length ks ≤ i → n < length s → take n s ++ between lo hi (drop i ks) (hi ∷ []) ≡ r → take (n + 1) (set s n hi) ≡ r
+pub breaks-done : (lo hi : Float) (ks s r : List Float) (n i : ℕ) → length ks ≤ i → n < length s → take n s ++ between lo hi (drop i ks) (hi ∷ []) ≡ r
+    → take (n + 1) (set s n hi) ≡ r
 unfolding between
 breaks-done lo hi ks s r n i h g e = rw (add-one, take-suc-set s n hi g) (rw (nothing-left ks i h) at e)
 

@@ -28,7 +28,8 @@ not-admitted d k e =
     (subst (λ (x : Admission). OneOf (1 ∷ 2 ∷ 3 ∷ 4 ∷ 5 ∷ 6 ∷ 7 ∷ 8 ∷ 9 ∷ 10 ∷ 11 ∷ []) (tagOf declared.the-type x)) e k)
 
 -- ---- the first half gives the limits that the second half asks
-pub few : (degree : ℕ) (knots : List Float) (mults : List ℕ) (next : Admission) → validateDirection degree knots mults next ≡ Admitted → (degree ≤ 25) × (length mults ≤ 128)
+pub few : (degree : ℕ) (knots : List Float) (mults : List ℕ) (next : Admission) → validateDirection degree knots mults next ≡ Admitted
+    → (degree ≤ 25) × (length mults ≤ 128)
 unfolding validateDirection
 few degree knots mults next e =
     let a4 = pass (degreeOut degree) InvalidDegree _ (refusal InvalidDegree 3 refl) e in
@@ -44,7 +45,8 @@ few degree knots mults next e =
     (most, omega arith)
 
 -- ---- all the tests
-pub counts : (degree : ℕ) (knots : List Float) (mults : List ℕ) (coords weights : List Float) → admitOf degree knots mults coords weights ≡ Admitted → Counts degree knots mults coords weights
+pub counts : (degree : ℕ) (knots : List Float) (mults : List ℕ) (coords weights : List Float) → admitOf degree knots mults coords weights ≡ Admitted
+    → Counts degree knots mults coords weights
 unfolding validateDirection validatePoles tooLarge
 counts degree knots mults coords weights e =
     let a4 = pass _ InvalidDegree _ (refusal InvalidDegree 3 refl) e in

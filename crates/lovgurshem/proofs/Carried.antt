@@ -73,7 +73,8 @@ module _ (G : Geometry) where
   run-gap zero x u = refl
   run-gap (suc n) x u = go (over x) (run-gap n)
     where
-      go : (b : Bool) → ((y : State) (m : Memory) → gapIn (runFor G n y m .answer) (y .gap) ≡ y .gap) → gapIn (cond {A = Stepping} b (stepping (Next x) u) (turned (runFor G n) x (ownStepDef G x u)) .answer) (x .gap) ≡ x .gap
+      go : (b : Bool) → ((y : State) (m : Memory) → gapIn (runFor G n y m .answer) (y .gap) ≡ y .gap)
+          → gapIn (cond {A = Stepping} b (stepping (Next x) u) (turned (runFor G n) x (ownStepDef G x u)) .answer) (x .gap) ≡ x .gap
       go true f = refl
       go false f = turned-gap n f x (x .gap) (ownStepDef G x u .answer) (ownStepDef G x u .memory) (carried-gap x u (ownDef G x u))
 
@@ -84,14 +85,20 @@ gapOpen (BadQuestion a) g = g
 gapOpen NoOpenRoom g = g
 
 open-gap : (q : Question) (p1 p2 : List Float) (u : Memory) → gapOpen (openDef q p1 p2 u .answer) (q .gap) ≡ q .gap
-open-gap q p1 p2 u = go (isAdmitted (admission (q .line1))) (isAdmitted (admission (q .line2))) (isFine (asked q)) (piecesFit q p1 p2) (pushed (enough (needed (searchState (searchFor q) (start (searchFor q)))) (sizes u)) _)
+open-gap q p1 p2 u =
+    go (isAdmitted (admission (q .line1))) (isAdmitted (admission (q .line2))) (isFine (asked q)) (piecesFit q p1 p2)
+    (pushed (enough (needed (searchState (searchFor q) (start (searchFor q)))) (sizes u)) _)
   where
-    pushed : (b : Bool) (m : Memory) → gapOpen (cond {A = Pushing} b (pushing (Open (searchState (searchFor q) (start (searchFor q)))) m) (pushing NoOpenRoom u) .answer) (q .gap) ≡ q .gap
+    pushed : (b : Bool) (m : Memory)
+        → gapOpen (cond {A = Pushing} b (pushing (Open (searchState (searchFor q) (start (searchFor q)))) m) (pushing NoOpenRoom u) .answer) (q .gap)
+        ≡ q .gap
     pushed true m = refl
     pushed false m = refl
 
     go : (a b c d : Bool) → gapOpen (openPieces q p1 p2 u .answer) (q .gap) ≡ q .gap
-        → gapOpen (cond {A = Opening} a (cond b (cond c (cond d (openPieces q p1 p2 u) (opening NoOpenRoom p1 p2 u)) (opening (BadQuestion (asked q)) p1 p2 u)) (opening (BadLine 2 (admission (q .line2))) p1 p2 u)) (opening (BadLine 1 (admission (q .line1))) p1 p2 u) .answer) (q .gap) ≡ q .gap
+        → gapOpen (cond {A = Opening} a (cond b
+        (cond c (cond d (openPieces q p1 p2 u) (opening NoOpenRoom p1 p2 u)) (opening (BadQuestion (asked q)) p1 p2 u))
+        (opening (BadLine 2 (admission (q .line2))) p1 p2 u)) (opening (BadLine 1 (admission (q .line1))) p1 p2 u) .answer) (q .gap) ≡ q .gap
     go true true true true o = o
     go true true true false o = refl
     go true true false d o = refl
@@ -115,8 +122,11 @@ open-carried q p1 p2 u ws x h e = rw (le-leb _ _ h) (open-read ws (q .gap) (open
 
 pub step-carried : StepCarried
 unfolding callStep
-step-carried n ws gap u y t e = rw t (next-read ws gap (stepDef geometry (stateOf ws gap) u (verdictOf n) .answer) y (step-gap geometry (stateOf ws gap) u (verdictOf n)) e)
+step-carried n ws gap u y t e =
+    rw t (next-read ws gap (stepDef geometry (stateOf ws gap) u (verdictOf n) .answer) y (step-gap geometry (stateOf ws gap) u (verdictOf n)) e)
 
 pub run-carried : RunCarried
 unfolding callRun
-run-carried ws gap u y t e = rw t (next-read ws gap (runDef geometry (stateOf ws gap) u .answer) y (run-gap geometry (2 * stateOf ws gap .unspent + stateOf ws gap .waiting + 1) (stateOf ws gap) u) e)
+run-carried ws gap u y t e =
+    rw t (next-read ws gap (runDef geometry (stateOf ws gap) u .answer) y
+    (run-gap geometry (2 * stateOf ws gap .unspent + stateOf ws gap .waiting + 1) (stateOf ws gap) u) e)

@@ -45,13 +45,16 @@ open-zero q p1 p2 u ws {a} e f g z = go a (subst Numbered (sym (ap (λ (o : Open
 pub stays : (t : Bool) {s : Bool} → t ≡ true → (t ≡ true → s ≡ true) → s ≡ t
 stays t e f = f e ∙ sym e
 
-pub opened-put : (ws : List ℕ) {o : Opened} (b : Opened) {r : ℕ} {ws' : List ℕ} → o ≡ b → r ≡ openAnswer b → ws' ≡ openedWords ws b → (r ≡ openAnswer o) × (ws' ≡ openedWords ws o)
+pub opened-put : (ws : List ℕ) {o : Opened} (b : Opened) {r : ℕ} {ws' : List ℕ} → o ≡ b → r ≡ openAnswer b → ws' ≡ openedWords ws b
+    → (r ≡ openAnswer o) × (ws' ≡ openedWords ws o)
 opened-put ws b e f g = (f ∙ sym (ap openAnswer e), g ∙ sym (ap (openedWords ws) e))
 
-pub next-put : (ws : List ℕ) {s : Stepped} (b : Stepped) {r : ℕ} {ws' : List ℕ} → s ≡ b → r ≡ steppedNumber b → ws' ≡ steppedWords ws b → (r ≡ steppedNumber s) × (ws' ≡ steppedWords ws s)
+pub next-put : (ws : List ℕ) {s : Stepped} (b : Stepped) {r : ℕ} {ws' : List ℕ} → s ≡ b → r ≡ steppedNumber b → ws' ≡ steppedWords ws b
+    → (r ≡ steppedNumber s) × (ws' ≡ steppedWords ws s)
 next-put ws b e f g = (f ∙ sym (ap steppedNumber e), g ∙ sym (ap (steppedWords ws) e))
 
-pub report-put : (ws : List ℕ) {s : Reported} (b : Reported) {r : ℕ} {ws' : List ℕ} → s ≡ b → r ≡ reportedNumber b → ws' ≡ reportedWords ws b → (r ≡ reportedNumber s) × (ws' ≡ reportedWords ws s)
+pub report-put : (ws : List ℕ) {s : Reported} (b : Reported) {r : ℕ} {ws' : List ℕ} → s ≡ b → r ≡ reportedNumber b → ws' ≡ reportedWords ws b
+    → (r ≡ reportedNumber s) × (ws' ≡ reportedWords ws s)
 report-put ws b e f g = (f ∙ sym (ap reportedNumber e), g ∙ sym (ap (reportedWords ws) e))
 
 -- ---- the functions of the library
@@ -107,8 +110,11 @@ module _ (ws : List ℕ) (gap : Float) (u : Memory) where
     unfolding callReport
     report-short t e = left _ _ (ap (λ (b : Bool). b && leb 9 (length counts)) t ∙ e)
 
-    pub report-is : {x : State} {a : Reported} {u' : Memory} {slice' : List Float} {counts' : List ℕ} {r : ℕ} → isState ws ≡ true → leb 9 (length counts) ≡ true → x ≡ stateOf ws gap
-        → reporting a u' slice' ≡ reportDef geometry x u slice → r ≡ reportedNumber a → counts' ≡ reportedWords counts a → reportCall r counts' u' slice' ≡ callReport ws gap u slice counts
+    pub report-is : {x : State} {a : Reported} {u' : Memory} {slice' : List Float} {counts' : List ℕ} {r : ℕ} → isState ws ≡ true
+        → leb 9 (length counts) ≡ true → x ≡ stateOf ws gap
+        → reporting a u' slice' ≡ reportDef geometry x u slice → r ≡ reportedNumber a → counts' ≡ reportedWords counts a
+        → reportCall r counts' u' slice' ≡ callReport ws gap u slice counts
     unfolding callReport
     report-is {x} {a} {u'} {slice'} t k d e f g =
-        (λ i. reportCall (f i) (g i) u' slice') ∙ ap (reported counts) (e ∙ ap (λ (y : State). reportDef geometry y u slice) d) ∙ taken _ _ (ap (λ (b : Bool). b && leb 9 (length counts)) t ∙ k)
+        (λ i. reportCall (f i) (g i) u' slice') ∙ ap (reported counts) (e ∙ ap (λ (y : State). reportDef geometry y u slice) d)
+        ∙ taken _ _ (ap (λ (b : Bool). b && leb 9 (length counts)) t ∙ k)

@@ -93,7 +93,9 @@ deep-flat S P (n ∷ r) h k = let z = k .0 in (omega arith, omega arith, deep-fl
 pub count-fresh : (S : Shape) (ps qs : List (S .Part)) (allowance : ℕ) → Counts S (length (pushed S ps qs)) (fresh S ps qs allowance)
 count-fresh S ps qs allowance = record {
   balance = simp length-reverse (omega arith);
-  steep = deep-flat S (length (pushed S ps qs)) (reverse (pushed S ps qs)) (simp length-reverse (omega arith)) (all-reverse (λ (n : Node S). depth S n ≡ 0) (pushed S ps qs) (fresh-pushed S ps qs));
+  steep =
+      deep-flat S (length (pushed S ps qs)) (reverse (pushed S ps qs)) (simp length-reverse (omega arith))
+      (all-reverse (λ (n : Node S). depth S n ≡ 0) (pushed S ps qs) (fresh-pushed S ps qs));
 }
 
 -- ---- covering: halving a sound part loses no station
@@ -169,7 +171,8 @@ module _ (S : Shape) (H : Halving S) (ps qs : List (S .Part)) (s t : S .Station)
 
 -- ---- the pieces of the waiting nodes stay sound
 module _ (S : Shape) (H : Halving S) where
-  sound-divide : (d : Bool) (k : ℕ) (n : Node S) (r : List (Node S)) (m : Search S) → All (SoundNode S H) (m .stack) → All (SoundNode S H) (n ∷ r) → All (SoundNode S H) (divide S d k n r m .stack)
+  sound-divide : (d : Bool) (k : ℕ) (n : Node S) (r : List (Node S)) (m : Search S) → All (SoundNode S H) (m .stack) → All (SoundNode S H) (n ∷ r)
+      → All (SoundNode S H) (divide S d k n r m .stack)
   sound-divide true k n r m w z = z .1
   sound-divide false zero n r m w z = w
   sound-divide false (suc k) n r m w z = (sound-child S H (larger S n) false n (z .0), (sound-child S H (larger S n) true n (z .0), z .1))
@@ -207,7 +210,9 @@ module _ (S : Shape) (s t : S .Station) where
   row-has p [] h k = absurd k
   row-has p (q ∷ qs) h (inl z) = go (S .apart p q) refl
     where
-      go : (b : Bool) → S .apart p q ≡ b → Any (λ (q : S .Part). T (S .apart p q) × S .Holds p s × S .Holds q t) (q ∷ qs) ⊎ Any (InNode S s t) (cond b (row S p qs) (atPieces S p q ∷ row S p qs))
+      go : (b : Bool) → S .apart p q ≡ b
+          → Any (λ (q : S .Part). T (S .apart p q) × S .Holds p s × S .Holds q t) (q ∷ qs) ⊎ Any (InNode S s t)
+          (cond b (row S p qs) (atPieces S p q ∷ row S p qs))
       go true e = inl (inl (subst T (sym e) tt, h, z))
       go false e = inr (inl (h, z))
   row-has p (q ∷ qs) h (inr k) = go (S .apart p q) (row-has p qs h k)

@@ -102,14 +102,47 @@ module _ (S : Shape) where
   ended m = m .stopped || none (m .stack)
 
   abbrev pub giveUp : Node S → List (Node S) → Search S → Search S
-  giveUp n r m = record { stack = r; settled = m .settled; given = m .given ++ (n ∷ []); visits = suc (m .visits); splits = m .splits; unspent = m .unspent; stopped = m .stopped; told = false }
+  giveUp n r m =
+      record {
+        stack = r;
+        settled = m .settled;
+        given = m .given ++ (n ∷ []);
+        visits = suc (m .visits);
+        splits = m .splits;
+        unspent = m .unspent;
+        stopped = m .stopped;
+        told = false;
+      }
+
+  -- the search ends, with these nodes left
+  abbrev pub stopWith : List (Node S) → Search S → Search S
+  stopWith l m =
+      record {
+        stack = l;
+        settled = m .settled;
+        given = m .given;
+        visits = suc (m .visits);
+        splits = m .splits;
+        unspent = zero;
+        stopped = true;
+        told = false;
+      }
 
   -- a split: at the depth limit, at no allowance, and otherwise
   abbrev pub divide : Bool → ℕ → Node S → List (Node S) → Search S → Search S
   divide true u n r m = giveUp n r m
-  divide false zero n r m = record { stack = m .stack; settled = m .settled; given = m .given; visits = suc (m .visits); splits = m .splits; unspent = zero; stopped = true; told = false }
+  divide false zero n r m = stopWith (m .stack) m
   divide false (suc u) n r m =
-      record { stack = child (larger n) false n ∷ child (larger n) true n ∷ r; settled = m .settled; given = m .given; visits = suc (m .visits); splits = suc (m .splits); unspent = u; stopped = m .stopped; told = false }
+      record {
+        stack = child (larger n) false n ∷ child (larger n) true n ∷ r;
+        settled = m .settled;
+        given = m .given;
+        visits = suc (m .visits);
+        splits = suc (m .splits);
+        unspent = u;
+        stopped = m .stopped;
+        told = false;
+      }
 
   -- what a verdict for the top node does; nothing where no node waits
   abbrev pub onTop : Verdict → List (Node S) → Search S → Search S
@@ -117,7 +150,16 @@ module _ (S : Shape) where
   onTop Split [] m = m
   onTop Unseparated [] m = m
   onTop Settled (n ∷ r) m =
-      record { stack = r; settled = record { node = n; own = m .told } ∷ m .settled; given = m .given; visits = suc (m .visits); splits = m .splits; unspent = m .unspent; stopped = m .stopped; told = false }
+      record {
+        stack = r;
+        settled = record { node = n; own = m .told } ∷ m .settled;
+        given = m .given;
+        visits = suc (m .visits);
+        splits = m .splits;
+        unspent = m .unspent;
+        stopped = m .stopped;
+        told = false;
+      }
   onTop Split (n ∷ r) m = divide (leb limit (depth n)) (m .unspent) n r m
   onTop Unseparated (n ∷ r) m = giveUp n r m
 
@@ -131,4 +173,14 @@ module _ (S : Shape) where
   isSettle Unseparated = false
 
   abbrev pub hear : Verdict → Search S → Search S
-  hear v m = record { stack = m .stack; settled = m .settled; given = m .given; visits = m .visits; splits = m .splits; unspent = m .unspent; stopped = m .stopped; told = isSettle v }
+  hear v m =
+      record {
+        stack = m .stack;
+        settled = m .settled;
+        given = m .given;
+        visits = m .visits;
+        splits = m .splits;
+        unspent = m .unspent;
+        stopped = m .stopped;
+        told = isSettle v;
+      }

@@ -17,20 +17,59 @@ use Rattle.nodes.specs.Writes.{rangesHalved, rangesAfter, depthsAfter}
 
 pub region-is : (l : List Float) (k : ℕ) (c : Corners) (x0 y0 z0 x1 y1 z1 : Float)
     → x0 ≡ c .x0 → y0 ≡ c .y0 → z0 ≡ c .z0 → x1 ≡ c .x1 → y1 ≡ c .y1 → z1 ≡ c .z1
-    → _≡_ {A = Region} (record { a0 = getD l (k * 4) nan; a1 = getD l (k * 4 + 1) nan; b0 = getD l (k * 4 + 2) nan; b1 = getD l (k * 4 + 3) nan; x0 = x0; y0 = y0; z0 = z0; x1 = x1; y1 = y1; z1 = z1 })
+    → _≡_ {A = Region} (record {
+      a0 = getD l (k * 4) nan;
+      a1 = getD l (k * 4 + 1) nan;
+      b0 = getD l (k * 4 + 2) nan;
+      b1 = getD l (k * 4 + 3) nan;
+      x0 = x0;
+      y0 = y0;
+      z0 = z0;
+      x1 = x1;
+      y1 = y1;
+      z1 = z1;
+    })
     (regionWith c (block 4 k l))
 region-is l k c x0 y0 z0 x1 y1 z1 e0 e1 e2 e3 e4 e5 =
-    rw (block-get 4 k 0 l nan (omega arith), block-get 4 k 1 l nan (omega arith), block-get 4 k 2 l nan (omega arith), block-get 4 k 3 l nan (omega arith), add-zero, e0, e1, e2, e3, e4, e5) refl
+    rw (
+      block-get 4 k 0 l nan (omega arith),
+      block-get 4 k 1 l nan (omega arith),
+      block-get 4 k 2 l nan (omega arith),
+      block-get 4 k 3 l nan (omega arith),
+      add-zero,
+      e0,
+      e1,
+      e2,
+      e3,
+      e4,
+      e5,
+    ) refl
 
 halved-second : (l : List Float) (k : ℕ) (mid : Float) → mid ≡ middle (getD l (k * 4 + 2) nan) (getD l (k * 4 + 3) nan)
-    → (getD l (k * 4) nan ∷ getD l (k * 4 + 1) nan ∷ mid ∷ getD l (k * 4 + 3) nan ∷ []) ++ (getD l (k * 4) nan ∷ getD l (k * 4 + 1) nan ∷ getD l (k * 4 + 2) nan ∷ mid ∷ []) ≡ rangesHalved true (block 4 k l)
+    → (getD l (k * 4) nan ∷ getD l (k * 4 + 1) nan ∷ mid ∷ getD l (k * 4 + 3) nan ∷ []) ++
+    (getD l (k * 4) nan ∷ getD l (k * 4 + 1) nan ∷ getD l (k * 4 + 2) nan ∷ mid ∷ []) ≡ rangesHalved true (block 4 k l)
 halved-second l k mid e =
-    rw (block-get 4 k 0 l nan (omega arith), block-get 4 k 1 l nan (omega arith), block-get 4 k 2 l nan (omega arith), block-get 4 k 3 l nan (omega arith), add-zero, e) refl
+    rw (
+      block-get 4 k 0 l nan (omega arith),
+      block-get 4 k 1 l nan (omega arith),
+      block-get 4 k 2 l nan (omega arith),
+      block-get 4 k 3 l nan (omega arith),
+      add-zero,
+      e,
+    ) refl
 
 halved-first : (l : List Float) (k : ℕ) (mid : Float) → mid ≡ middle (getD l (k * 4) nan) (getD l (k * 4 + 1) nan)
-    → (mid ∷ getD l (k * 4 + 1) nan ∷ getD l (k * 4 + 2) nan ∷ getD l (k * 4 + 3) nan ∷ []) ++ (getD l (k * 4) nan ∷ mid ∷ getD l (k * 4 + 2) nan ∷ getD l (k * 4 + 3) nan ∷ []) ≡ rangesHalved false (block 4 k l)
+    → (mid ∷ getD l (k * 4 + 1) nan ∷ getD l (k * 4 + 2) nan ∷ getD l (k * 4 + 3) nan ∷ []) ++
+    (getD l (k * 4) nan ∷ mid ∷ getD l (k * 4 + 2) nan ∷ getD l (k * 4 + 3) nan ∷ []) ≡ rangesHalved false (block 4 k l)
 halved-first l k mid e =
-    rw (block-get 4 k 0 l nan (omega arith), block-get 4 k 1 l nan (omega arith), block-get 4 k 2 l nan (omega arith), block-get 4 k 3 l nan (omega arith), add-zero, e) refl
+    rw (
+      block-get 4 k 0 l nan (omega arith),
+      block-get 4 k 1 l nan (omega arith),
+      block-get 4 k 2 l nan (omega arith),
+      block-get 4 k 3 l nan (omega arith),
+      add-zero,
+      e,
+    ) refl
 
 -- two points written one behind the other
 ranges-are : (b : Bool) (l l1 l2 u v : List Float) (k : ℕ) → (k + 2) * 4 ≤ length l → length u ≡ 4 → length v ≡ 4
@@ -45,10 +84,12 @@ pub ranges-second : (l l1 l2 : List Float) (k : ℕ) (mid : Float) → (k + 2) *
     → l1 ≡ patch l (k * 4) (getD l (k * 4) nan ∷ getD l (k * 4 + 1) nan ∷ mid ∷ getD l (k * 4 + 3) nan ∷ [])
     → l2 ≡ patch l1 (k * 4 + 4) (getD l (k * 4) nan ∷ getD l (k * 4 + 1) nan ∷ getD l (k * 4 + 2) nan ∷ mid ∷ []) → l2 ≡ rangesAfter true k l
 ranges-second l l1 l2 k mid h m e f =
-    ranges-are true l l1 l2 (getD l (k * 4) nan ∷ getD l (k * 4 + 1) nan ∷ mid ∷ getD l (k * 4 + 3) nan ∷ []) (getD l (k * 4) nan ∷ getD l (k * 4 + 1) nan ∷ getD l (k * 4 + 2) nan ∷ mid ∷ []) k h refl refl e f (halved-second l k mid m)
+    ranges-are true l l1 l2 (getD l (k * 4) nan ∷ getD l (k * 4 + 1) nan ∷ mid ∷ getD l (k * 4 + 3) nan ∷ [])
+    (getD l (k * 4) nan ∷ getD l (k * 4 + 1) nan ∷ getD l (k * 4 + 2) nan ∷ mid ∷ []) k h refl refl e f (halved-second l k mid m)
 
 pub ranges-first : (l l1 l2 : List Float) (k : ℕ) (mid : Float) → (k + 2) * 4 ≤ length l → mid ≡ middle (getD l (k * 4) nan) (getD l (k * 4 + 1) nan)
     → l1 ≡ patch l (k * 4) (mid ∷ getD l (k * 4 + 1) nan ∷ getD l (k * 4 + 2) nan ∷ getD l (k * 4 + 3) nan ∷ [])
     → l2 ≡ patch l1 (k * 4 + 4) (getD l (k * 4) nan ∷ mid ∷ getD l (k * 4 + 2) nan ∷ getD l (k * 4 + 3) nan ∷ []) → l2 ≡ rangesAfter false k l
 ranges-first l l1 l2 k mid h m e f =
-    ranges-are false l l1 l2 (mid ∷ getD l (k * 4 + 1) nan ∷ getD l (k * 4 + 2) nan ∷ getD l (k * 4 + 3) nan ∷ []) (getD l (k * 4) nan ∷ mid ∷ getD l (k * 4 + 2) nan ∷ getD l (k * 4 + 3) nan ∷ []) k h refl refl e f (halved-first l k mid m)
+    ranges-are false l l1 l2 (mid ∷ getD l (k * 4 + 1) nan ∷ getD l (k * 4 + 2) nan ∷ getD l (k * 4 + 3) nan ∷ [])
+    (getD l (k * 4) nan ∷ mid ∷ getD l (k * 4 + 2) nan ∷ getD l (k * 4 + 3) nan ∷ []) k h refl refl e f (halved-first l k mid m)

@@ -18,9 +18,11 @@ slotsAfter half w k s = cond half (splitSlot w k s) (copySlot w k s)
 -- a node's four range ends, those of the second line or of the first halved: the upper half, and the lower
 abbrev pub rangesHalved : Bool → List Float → List Float
 rangesHalved true l =
-    (getD l 0 nan ∷ getD l 1 nan ∷ middle (getD l 2 nan) (getD l 3 nan) ∷ getD l 3 nan ∷ []) ++ (getD l 0 nan ∷ getD l 1 nan ∷ getD l 2 nan ∷ middle (getD l 2 nan) (getD l 3 nan) ∷ [])
+    (getD l 0 nan ∷ getD l 1 nan ∷ middle (getD l 2 nan) (getD l 3 nan) ∷ getD l 3 nan ∷ []) ++
+    (getD l 0 nan ∷ getD l 1 nan ∷ getD l 2 nan ∷ middle (getD l 2 nan) (getD l 3 nan) ∷ [])
 rangesHalved false l =
-    (middle (getD l 0 nan) (getD l 1 nan) ∷ getD l 1 nan ∷ getD l 2 nan ∷ getD l 3 nan ∷ []) ++ (getD l 0 nan ∷ middle (getD l 0 nan) (getD l 1 nan) ∷ getD l 2 nan ∷ getD l 3 nan ∷ [])
+    (middle (getD l 0 nan) (getD l 1 nan) ∷ getD l 1 nan ∷ getD l 2 nan ∷ getD l 3 nan ∷ []) ++
+    (getD l 0 nan ∷ middle (getD l 0 nan) (getD l 1 nan) ∷ getD l 2 nan ∷ getD l 3 nan ∷ [])
 
 abbrev pub rangesAfter : Bool → ℕ → List Float → List Float
 rangesAfter second k ranges = patch ranges (k * 4) (rangesHalved second (block 4 k ranges))

@@ -47,7 +47,8 @@ push-room x n S w1 w2 gap s e f =
       (let z = R .depths in omega arith),
     )
 
-module _ (S : ℕ) (gap : Float) (p q : Pieces) (n1 n2 : ℕ) (u : Memory) (x : State) (n : ℕ) (en : n ≡ length (pairsFrom gap p q n2 n1 0)) (ex : x ≡ firstState n S (p .w) (q .w) gap) where
+module _ (S : ℕ) (gap : Float) (p q : Pieces) (n1 n2 : ℕ) (u : Memory) (x : State) (n : ℕ) (en : n ≡ length (pairsFrom gap p q n2 n1 0))
+    (ex : x ≡ firstState n S (p .w) (q .w) gap) where
   state-is : x ≡ firstState (length (pairsFrom gap p q n2 n1 0)) S (p .w) (q .w) gap
   state-is = ex ∙ ap (λ (k : ℕ). firstState k S (p .w) (q .w) gap) en
 
@@ -83,18 +84,23 @@ module _ (q : Question) (p1 p2 : List Float) (u : Memory) where
         stopped = false;
       }
 
-  pub push-is : pushPairs (q .splits) (q .gap) (one q p1 p2) (other q p1 p2) (pieceCount (q .lo1) (q .hi1) (q .line1 .knots)) (pieceCount (q .lo2) (q .hi2) (q .line2 .knots)) u ≡ pushDef (searchFor q) u
+  pub push-is : pushPairs (q .splits) (q .gap) (one q p1 p2) (other q p1 p2) (pieceCount (q .lo1) (q .hi1) (q .line1 .knots))
+      (pieceCount (q .lo2) (q .hi2) (q .line2 .knots)) u ≡ pushDef (searchFor q) u
   push-is =
       let m = memory-is q p1 p2 u _ _ _ _ refl refl refl refl in
       λ i. cond (enough (needed (fresh-state i)) (sizes u)) (pushing (Open (fresh-state i)) (m i)) (pushing NoRoom u)
 
   -- the pieces written, then the pairs pushed
   pub pieces-opened : (r : Opened) (a b : List Float) (m : Memory) → a ≡ piecesIn (q .line1) (q .lo1) (q .hi1) p1 → b ≡ piecesIn (q .line2) (q .lo2) (q .hi2) p2
-      → pushing r m ≡ pushPairs (q .splits) (q .gap) (pieces (q .line1 .degree + 1) a (breaksOf (q .lo1) (q .hi1) (q .line1 .knots))) (pieces (q .line2 .degree + 1) b (breaksOf (q .lo2) (q .hi2) (q .line2 .knots)))
+      → pushing r m
+      ≡ pushPairs (q .splits) (q .gap) (pieces (q .line1 .degree + 1) a (breaksOf (q .lo1) (q .hi1) (q .line1 .knots)))
+      (pieces (q .line2 .degree + 1) b (breaksOf (q .lo2) (q .hi2) (q .line2 .knots)))
       (pieceCount (q .lo1) (q .hi1) (q .line1 .knots)) (pieceCount (q .lo2) (q .hi2) (q .line2 .knots)) u
       → opening r a b m ≡ openPieces q p1 p2 u
   pieces-opened r a b m ea eb e =
-      let f = e ∙ (λ i. pushPairs (q .splits) (q .gap) (pieces (q .line1 .degree + 1) (ea i) (breaksOf (q .lo1) (q .hi1) (q .line1 .knots))) (pieces (q .line2 .degree + 1) (eb i) (breaksOf (q .lo2) (q .hi2) (q .line2 .knots)))
+      let f = e
+      ∙ (λ i. pushPairs (q .splits) (q .gap) (pieces (q .line1 .degree + 1) (ea i) (breaksOf (q .lo1) (q .hi1) (q .line1 .knots)))
+      (pieces (q .line2 .degree + 1) (eb i) (breaksOf (q .lo2) (q .hi2) (q .line2 .knots)))
       (pieceCount (q .lo1) (q .hi1) (q .line1 .knots)) (pieceCount (q .lo2) (q .hi2) (q .line2 .knots)) u) ∙ push-is in
       λ i. opening (f i .answer) (ea i) (eb i) (f i .memory)
 
@@ -102,13 +108,16 @@ module _ (q : Question) (p1 p2 : List Float) (u : Memory) where
   pub bad-first : isAdmitted (admission (q .line1)) ≡ false → opening (BadLine 1 (admission (q .line1))) p1 p2 u ≡ openDef q p1 p2 u
   bad-first e = rw e refl
 
-  pub bad-second : isAdmitted (admission (q .line1)) ≡ true → isAdmitted (admission (q .line2)) ≡ false → opening (BadLine 2 (admission (q .line2))) p1 p2 u ≡ openDef q p1 p2 u
+  pub bad-second : isAdmitted (admission (q .line1)) ≡ true → isAdmitted (admission (q .line2)) ≡ false
+      → opening (BadLine 2 (admission (q .line2))) p1 p2 u ≡ openDef q p1 p2 u
   bad-second e f = rw (e, f) refl
 
-  pub bad-question : isAdmitted (admission (q .line1)) ≡ true → isAdmitted (admission (q .line2)) ≡ true → isFine (asked q) ≡ false → opening (BadQuestion (asked q)) p1 p2 u ≡ openDef q p1 p2 u
+  pub bad-question : isAdmitted (admission (q .line1)) ≡ true → isAdmitted (admission (q .line2)) ≡ true → isFine (asked q) ≡ false
+      → opening (BadQuestion (asked q)) p1 p2 u ≡ openDef q p1 p2 u
   bad-question e f g = rw (e, f, g) refl
 
-  pub no-room : isAdmitted (admission (q .line1)) ≡ true → isAdmitted (admission (q .line2)) ≡ true → isFine (asked q) ≡ true → piecesFit q p1 p2 ≡ false → opening NoRoom p1 p2 u ≡ openDef q p1 p2 u
+  pub no-room : isAdmitted (admission (q .line1)) ≡ true → isAdmitted (admission (q .line2)) ≡ true → isFine (asked q) ≡ true
+      → piecesFit q p1 p2 ≡ false → opening NoRoom p1 p2 u ≡ openDef q p1 p2 u
   no-room e f g h = rw (e, f, g, h) refl
 
   pub opened-is : isAdmitted (admission (q .line1)) ≡ true → isAdmitted (admission (q .line2)) ≡ true → isFine (asked q) ≡ true → piecesFit q p1 p2 ≡ true
@@ -119,7 +128,8 @@ module _ (q : Question) (p1 p2 : List Float) (u : Memory) where
 pub used-length : (m : ℕ) (out : List Float) → m ≤ length out → m ≡ length (take m out)
 used-length m out h = sym (length-take-le m out h)
 
-pub has-pieces : (m w d : ℕ) (P out B : List Float) → m ≡ length B → take m out ≡ B → 2 ≤ m → w ≡ d + 1 → (length B - 1) * (4 * (d + 1)) ≤ length P → HasPieces (pieces w P (take m out)) (m - 1)
+pub has-pieces : (m w d : ℕ) (P out B : List Float) → m ≡ length B → take m out ≡ B → 2 ≤ m → w ≡ d + 1 → (length B - 1) * (4 * (d + 1)) ≤ length P
+    → HasPieces (pieces w P (take m out)) (m - 1)
 has-pieces m w d P out B e f h ew r =
     (rw (e, ew) r, let l : length (take m out) ≡ m = ap length f ∙ sym e in omega arith)
 

@@ -51,12 +51,16 @@ bad-question GapOutOfRange e = (lit≤ tt, lit≤ tt)
 bad-question TooManySplits e = (lit≤ tt, lit≤ tt)
 bad-question (BreaksTooClose line) e = (lit≤ tt, lit≤ tt)
 
-line-within : (b1 : Interval) (k1 : List Float) (l1 h1 : Float) (b2 : Interval) (k2 : List Float) (l2 h2 gap : Float) (n : ℕ) → askedLine (askWithin b1 k1 l1 h1 b2 k2 l2 h2 gap n) ≤ 2
+line-within : (b1 : Interval) (k1 : List Float) (l1 h1 : Float) (b2 : Interval) (k2 : List Float) (l2 h2 gap : Float) (n : ℕ)
+    → askedLine (askWithin b1 k1 l1 h1 b2 k2 l2 h2 gap n) ≤ 2
 unfolding askWithin
 line-within b1 k1 l1 h1 b2 k2 l2 h2 gap n =
-    go (not (rangeFits b1 l1 h1)) (not (rangeFits b2 l2 h2)) (not (within zero64 two24 gap)) (ltb 256 n) (not (eachTwo parted (breaksOf l1 h1 k1))) (not (eachTwo parted (breaksOf l2 h2 k2)))
+    go (not (rangeFits b1 l1 h1)) (not (rangeFits b2 l2 h2)) (not (within zero64 two24 gap)) (ltb 256 n) (not (eachTwo parted (breaksOf l1 h1 k1)))
+    (not (eachTwo parted (breaksOf l2 h2 k2)))
   where
-    go : (a b c d e f : Bool) → askedLine (cond a (RangeOutOfBounds 1) (cond b (RangeOutOfBounds 2) (cond c GapOutOfRange (cond d TooManySplits (cond e (BreaksTooClose 1) (cond f (BreaksTooClose 2) Fine)))))) ≤ 2
+    go : (a b c d e f : Bool)
+        → askedLine (cond a (RangeOutOfBounds 1)
+        (cond b (RangeOutOfBounds 2) (cond c GapOutOfRange (cond d TooManySplits (cond e (BreaksTooClose 1) (cond f (BreaksTooClose 2) Fine)))))) ≤ 2
     go true b c d e f = lit≤ tt
     go false true c d e f = lit≤ tt
     go false false true d e f = lit≤ tt
@@ -74,12 +78,16 @@ pieces-numbered q p1 p2 u = go (enough (needed (stateOf (searchFor q) (start (se
 
 pub opening-numbered : (q : Question) (p1 p2 : List Float) (u : Memory) → Numbered (openDef q p1 p2 u .answer)
 opening-numbered q p1 p2 u =
-    go (isAdmitted (admission (q .line1))) (isAdmitted (admission (q .line2))) (isFine (asked q)) (piecesFit q p1 p2) (bad-line (admission (q .line1))) (bad-line (admission (q .line2))) (bad-question (asked q))
+    go (isAdmitted (admission (q .line1))) (isAdmitted (admission (q .line2))) (isFine (asked q)) (piecesFit q p1 p2)
+    (bad-line (admission (q .line1))) (bad-line (admission (q .line2))) (bad-question (asked q))
     (line-within _ _ _ _ _ _ _ _ _ _) (pieces-numbered q p1 p2 u)
   where
-    go : (a b c d : Bool) → (a ≡ false → (1 ≤ admissionNumber (admission (q .line1))) × (admissionNumber (admission (q .line1)) ≤ 19)) → (b ≡ false → (1 ≤ admissionNumber (admission (q .line2))) × (admissionNumber (admission (q .line2)) ≤ 19))
+    go : (a b c d : Bool) → (a ≡ false → (1 ≤ admissionNumber (admission (q .line1))) × (admissionNumber (admission (q .line1)) ≤ 19))
+        → (b ≡ false → (1 ≤ admissionNumber (admission (q .line2))) × (admissionNumber (admission (q .line2)) ≤ 19))
         → (c ≡ false → (1 ≤ askedNumber (asked q)) × (askedNumber (asked q) ≤ 19)) → askedLine (asked q) ≤ 2 → Numbered (openPieces q p1 p2 u .answer)
-        → Numbered (cond {A = Opening} a (cond b (cond c (cond d (openPieces q p1 p2 u) (opening NoRoom p1 p2 u)) (opening (BadQuestion (asked q)) p1 p2 u)) (opening (BadLine 2 (admission (q .line2))) p1 p2 u)) (opening (BadLine 1 (admission (q .line1))) p1 p2 u) .answer)
+        → Numbered (cond {A = Opening} a (cond b
+        (cond c (cond d (openPieces q p1 p2 u) (opening NoRoom p1 p2 u)) (opening (BadQuestion (asked q)) p1 p2 u))
+        (opening (BadLine 2 (admission (q .line2))) p1 p2 u)) (opening (BadLine 1 (admission (q .line1))) p1 p2 u) .answer)
     go true true true true f g h l o = o
     go true true true false f g h l o = tt
     go true true false d f g h l o = (h refl .0, h refl .1, l)

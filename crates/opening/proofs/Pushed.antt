@@ -38,11 +38,13 @@ indexed-same f g (suc n) i h = λ k. h i (omega arith) k ∷ indexed-same f g n 
 abbrev pieceOf : ℕ → List Float → List Float → List Float → List Float → ℕ → Piece
 pieceOf p knots flat poles L i = record { lo = getD L i nan; hi = getD L (suc i) nan; net = netOf p knots flat poles (getD L i nan) (getD L (suc i) nan) }
 
-shift : (p : ℕ) (knots flat poles : List Float) (t : Float) (L : List Float) (n i : ℕ) → indexed (pieceOf p knots flat poles (t ∷ L)) n (suc i) ≡ indexed (pieceOf p knots flat poles L) n i
+shift : (p : ℕ) (knots flat poles : List Float) (t : Float) (L : List Float) (n i : ℕ)
+    → indexed (pieceOf p knots flat poles (t ∷ L)) n (suc i) ≡ indexed (pieceOf p knots flat poles L) n i
 shift p knots flat poles t L zero i = refl
 shift p knots flat poles t L (suc n) i = ap (λ (l : List Piece). pieceOf p knots flat poles L i ∷ l) (shift p knots flat poles t L n (suc i))
 
-chained : (p : ℕ) (knots flat poles : List Float) (t : Float) (ts : List Float) → piecesFrom t (cutsFrom p knots flat poles t ts) ≡ indexed (pieceOf p knots flat poles (t ∷ ts)) (length ts) 0
+chained : (p : ℕ) (knots flat poles : List Float) (t : Float) (ts : List Float)
+    → piecesFrom t (cutsFrom p knots flat poles t ts) ≡ indexed (pieceOf p knots flat poles (t ∷ ts)) (length ts) 0
 unfolding cutsFrom
 chained p knots flat poles t [] = refl
 chained p knots flat poles t (t1 ∷ ts) =
@@ -66,7 +68,9 @@ line-pieces l lo hi p =
     (λ j h. λ i. record {
       lo = getD (lo ∷ ts) j nan;
       hi = getD (lo ∷ ts) (suc j) nan;
-      net = sym (piece-at l lo hi (drop (0 + length (piecesOf (l .degree) (l .knots) (l .mults) (l .coords) (l .weights) lo hi)) p) j (let g : j + 1 < length (lo ∷ ts) = omega arith in g)
+      net =
+          sym (piece-at l lo hi (drop (0 + length (piecesOf (l .degree) (l .knots) (l .mults) (l .coords) (l .weights) lo hi)) p) j
+          (let g : j + 1 < length (lo ∷ ts) = omega arith in g)
           ∙ (let e = add-one j in ap (λ (k : ℕ). netOf (l .degree) (l .knots) flat poles (getD (lo ∷ ts) j nan) (getD (lo ∷ ts) k nan)) e)) i;
     })
     ∙ ap (λ (k : ℕ). indexed (slotPiece (linePieces l lo hi p)) k 0) (sym n)
@@ -82,7 +86,8 @@ module _ (gap : Float) (p q : Pieces) where
   row-is i (suc m) j = go (boxesApart gap (boxAt p i) (boxAt q j)) (row-is i m (suc j))
     where
       go : (b : Bool) → row (floats geometry gap) (slotPiece p i) (indexed (slotPiece q) m (suc j)) ≡ map nodeOf (rowFrom gap p q i m (suc j))
-          → cond b (row (floats geometry gap) (slotPiece p i) (indexed (slotPiece q) m (suc j))) (nodeOf (record { i = i; j = j }) ∷ row (floats geometry gap) (slotPiece p i) (indexed (slotPiece q) m (suc j)))
+          → cond b (row (floats geometry gap) (slotPiece p i) (indexed (slotPiece q) m (suc j)))
+          (nodeOf (record { i = i; j = j }) ∷ row (floats geometry gap) (slotPiece p i) (indexed (slotPiece q) m (suc j)))
           ≡ map nodeOf (cond b (rowFrom gap p q i m (suc j)) (record { i = i; j = j } ∷ rowFrom gap p q i m (suc j)))
       go true e = e
       go false e = ap (λ (l : List (Node (floats geometry gap))). nodeOf (record { i = i; j = j }) ∷ l) e

@@ -72,7 +72,16 @@ stateOf q m = record {
 
 -- left: the nodes waiting at the end
 abbrev pub tally : (q : Asked) → Search (shape q) → Counts
-tally q m = record { pairs = pairsOf q; visits = m .visits; splits = m .splits; settled = length (m .settled); given = length (m .given); left = cond (ended (shape q) m) (length (m .stack)) 0; unspent = m .unspent }
+tally q m =
+    record {
+      pairs = pairsOf q;
+      visits = m .visits;
+      splits = m .splits;
+      settled = length (m .settled);
+      given = length (m .given);
+      left = cond (ended (shape q) m) (length (m .stack)) 0;
+      unspent = m .unspent;
+    }
 
 -- the raw list: given-up regions in order, then the waiting nodes from the bottom
 abbrev pub rawList : (q : Asked) → Search (shape q) → List Region

@@ -103,7 +103,8 @@ pushPairs S gap p q n1 n2 u =
     let ks = pairsFrom gap p q n2 n1 0 in
     let x = firstState (length ks) S (p .w) (q .w) gap in
     cond (enough (needed x) (sizes u))
-    (pushing (Open x) (memory (patch (u .nets1) 0 (nets1Of p ks)) (patch (u .nets2) 0 (nets2Of q ks)) (patch (u .ranges) 0 (rangesOf p q ks)) (patch (u .depths) 0 (depthsOf ks)) (u .raw)))
+    (pushing (Open x) (memory (patch (u .nets1) 0 (nets1Of p ks)) (patch (u .nets2) 0 (nets2Of q ks)) (patch (u .ranges) 0 (rangesOf p q ks))
+    (patch (u .depths) 0 (depthsOf ks)) (u .raw)))
     (pushing NoRoom u)
 
 -- the pieces written, and the pairs pushed

@@ -61,7 +61,8 @@ module _ (gap : Float) (p q : Pieces) where
   row-split i zero n j e h = let k : j ≡ e = omega arith in rw (zero-add n, k) refl
   row-split i (suc m) n j e h =
       ap (λ (z : ℕ). rowFrom gap p q i z j) (suc-add m n)
-      ∙ cond-append (boxesApart gap (boxAt p i) (boxAt q j)) (pair i j) (rowFrom gap p q i m (suc j)) (rowFrom gap p q i n e) (rowFrom gap p q i (m + n) (suc j)) (row-split i m n (suc j) e (omega arith))
+      ∙ cond-append (boxesApart gap (boxAt p i) (boxAt q j)) (pair i j) (rowFrom gap p q i m (suc j)) (rowFrom gap p q i n e)
+      (rowFrom gap p q i (m + n) (suc j)) (row-split i m n (suc j) e (omega arith))
 
   pairs-split : (m a b i e : ℕ) → e ≡ i + a → pairsFrom gap p q m (a + b) i ≡ pairsFrom gap p q m a i ++ pairsFrom gap p q m b e
   unfolding pairsFrom
@@ -85,13 +86,15 @@ module _ (gap : Float) (p q : Pieces) where
   row-shorter : (i m n : ℕ) → m ≤ n → length (rowFrom gap p q i m 0) ≤ length (rowFrom gap p q i n 0)
   row-shorter i m n h =
       let k : m + (n - m) ≡ n = omega arith in
-      let e = ap (λ (z : ℕ). length (rowFrom gap p q i z 0)) (sym k) ∙ ap length (row-split i m (n - m) 0 m (sym (zero-add m))) ∙ length-append (rowFrom gap p q i m 0) (rowFrom gap p q i (n - m) m) in
+      let e = ap (λ (z : ℕ). length (rowFrom gap p q i z 0)) (sym k) ∙ ap length (row-split i m (n - m) 0 m (sym (zero-add m)))
+      ∙ length-append (rowFrom gap p q i m 0) (rowFrom gap p q i (n - m) m) in
       omega arith
 
   pairs-shorter : (w m n : ℕ) → m ≤ n → length (pairsFrom gap p q w m 0) ≤ length (pairsFrom gap p q w n 0)
   pairs-shorter w m n h =
       let k : m + (n - m) ≡ n = omega arith in
-      let e = ap (λ (z : ℕ). length (pairsFrom gap p q w z 0)) (sym k) ∙ ap length (pairs-split w m (n - m) 0 m (sym (zero-add m))) ∙ length-append (pairsFrom gap p q w m 0) (pairsFrom gap p q w (n - m) m) in
+      let e = ap (λ (z : ℕ). length (pairsFrom gap p q w z 0)) (sym k) ∙ ap length (pairs-split w m (n - m) 0 m (sym (zero-add m)))
+      ∙ length-append (pairsFrom gap p q w m 0) (pairsFrom gap p q w (n - m) m) in
       omega arith
 
   -- what the pairs of a row, and of the rows, write
@@ -101,11 +104,13 @@ module _ (gap : Float) (p q : Pieces) where
   row-long f c n i h (suc m) j k =
       long-cond f c (boxesApart gap (boxAt p i) (boxAt q j)) (pair i j) (rowFrom gap p q i m (suc j)) (h j (omega arith)) (row-long f c n i h m (suc j) (omega arith))
 
-  pairs-long : {A : Type 0} (f : Pair → List A) (c n m : ℕ) → ((i j : ℕ) → i < n → j < m → length (f (pair i j)) ≡ c) → (a i : ℕ) → i + a ≤ n → Long f c (pairsFrom gap p q m a i)
+  pairs-long : {A : Type 0} (f : Pair → List A) (c n m : ℕ) → ((i j : ℕ) → i < n → j < m → length (f (pair i j)) ≡ c) → (a i : ℕ) → i + a ≤ n
+      → Long f c (pairsFrom gap p q m a i)
   unfolding pairsFrom
   pairs-long f c n m h zero i k = sym (zero-mul c)
   pairs-long f c n m h (suc a) i k =
-      long-append f c (rowFrom gap p q i m 0) (pairsFrom gap p q m a (suc i)) (row-long f c m i (λ j. h i j (omega arith)) m 0 (omega arith)) (pairs-long f c n m h a (suc i) (omega arith))
+      long-append f c (rowFrom gap p q i m 0) (pairsFrom gap p q m a (suc i)) (row-long f c m i (λ j. h i j (omega arith)) m 0 (omega arith))
+      (pairs-long f c n m h a (suc i) (omega arith))
 
 -- ---- a piece has 4 w numbers
 net-long : (p : Pieces) (n i : ℕ) → HasPieces p n → i < n → length (netAt p i) ≡ 4 * p .w
@@ -123,7 +128,8 @@ slot-twice f c k l a b e g h =
     patch-twice l (k * c) ((k + length a) * c) (joined (map f a)) (joined (map f b)) (omega arith) (omega arith)
     ∙ ap (patch l (k * c)) (sym (joined-append f a b))
 
-depth-twice : (k : ℕ) (l : List ℕ) (a b : List Pair) → k + length a + length b ≤ length l → patch (patch l k (depthsOf a)) (k + length a) (depthsOf b) ≡ patch l k (depthsOf (a ++ b))
+depth-twice : (k : ℕ) (l : List ℕ) (a b : List Pair) → k + length a + length b ≤ length l
+    → patch (patch l k (depthsOf a)) (k + length a) (depthsOf b) ≡ patch l k (depthsOf (a ++ b))
 depth-twice k l a b h =
     let e = depths-long a in
     let g = depths-long b in
@@ -143,7 +149,8 @@ pushed-twice p q u k a b x y h =
     let e4 = depth-twice k (u .depths) a b (h .3) in
     λ t. nodes (e1 t) (e2 t) (e3 t) (e4 t)
 
-pub room-less : (p q : Pieces) (n m : ℕ) (u v : Nodes) → n ≤ m → length (v .nets1) ≡ length (u .nets1) → length (v .nets2) ≡ length (u .nets2) → length (v .ranges) ≡ length (u .ranges) → length (v .depths) ≡ length (u .depths)
+pub room-less : (p q : Pieces) (n m : ℕ) (u v : Nodes) → n ≤ m → length (v .nets1) ≡ length (u .nets1) → length (v .nets2) ≡ length (u .nets2)
+    → length (v .ranges) ≡ length (u .ranges) → length (v .depths) ≡ length (u .depths)
     → Room p q m u → Room p q n v
 room-less p q n m u v h e1 e2 e3 e4 r =
     let a = le-trans (mul-le-mul-right (4 * p .w) h) (r .0) in
@@ -176,7 +183,8 @@ push-none p q k u =
 -- ---- one pair
 -- the four writes of a pair
 pub pair-put : (p q : Pieces) (k i j : ℕ) (u : Nodes) (a b r : List Float) (d : List ℕ) → k < length (u .depths)
-    → a ≡ patch (u .nets1) (k * (4 * p .w)) (netAt p i) → b ≡ patch (u .nets2) (k * (4 * q .w)) (netAt q j) → r ≡ patch (u .ranges) (k * 4) (rangesAt p q (pair i j)) → d ≡ set (u .depths) k 0
+    → a ≡ patch (u .nets1) (k * (4 * p .w)) (netAt p i) → b ≡ patch (u .nets2) (k * (4 * q .w)) (netAt q j)
+    → r ≡ patch (u .ranges) (k * 4) (rangesAt p q (pair i j)) → d ≡ set (u .depths) k 0
     → nodes a b r d ≡ pushed p q k (pair i j ∷ []) u
 pair-put p q k i j u a b r d h ea eb er ed =
     let fa = ea ∙ ap (patch (u .nets1) (k * (4 * p .w))) (sym (append-nil (netAt p i))) in
@@ -206,7 +214,8 @@ module _ (gap : Float) (p q : Pieces) (i j k : ℕ) (a b : Aabb) (r : Bool) (ea 
       let l = ap length (near-one t) in
       room-less p q (k + 1) (k + length (rowFrom gap p q i 1 j)) u u (omega arith) refl refl refl refl h
 
-  pub one-near : (u u' : Nodes) → r ≡ false → u' ≡ pushed p q k (pair i j ∷ []) u → (u' ≡ pushed p q k (rowFrom gap p q i 1 j) u) × (k + 1 ≡ k + length (rowFrom gap p q i 1 j))
+  pub one-near : (u u' : Nodes) → r ≡ false → u' ≡ pushed p q k (pair i j ∷ []) u
+      → (u' ≡ pushed p q k (rowFrom gap p q i 1 j) u) × (k + 1 ≡ k + length (rowFrom gap p q i 1 j))
   one-near u u' t e =
       let l = ap length (near-one t) in
       (e ∙ ap (λ (ks : List Pair). pushed p q k ks u) (sym (near-one t)), omega arith)
@@ -223,7 +232,8 @@ module _ (gap : Float) (p q : Pieces) (i n k₀ : ℕ) (hp : HasPieces p (i + 1)
   unfolding rowFrom
   row-start u = (push-none p q k₀ u, sym (add-zero k₀))
 
-  pub row-room : (j k : ℕ) (u₀ u : Nodes) → j < n → length (u .nets1) ≡ length (u₀ .nets1) → length (u .nets2) ≡ length (u₀ .nets2) → length (u .ranges) ≡ length (u₀ .ranges) → length (u .depths) ≡ length (u₀ .depths)
+  pub row-room : (j k : ℕ) (u₀ u : Nodes) → j < n → length (u .nets1) ≡ length (u₀ .nets1) → length (u .nets2) ≡ length (u₀ .nets2)
+      → length (u .ranges) ≡ length (u₀ .ranges) → length (u .depths) ≡ length (u₀ .depths)
       → Room p q (k₀ + length (rowFrom gap p q i n 0)) u₀ → k ≡ k₀ + length (rowFrom gap p q i j 0) → Room p q (k + length (rowFrom gap p q i 1 j)) u
   row-room j k u₀ u lt e1 e2 e3 e4 h ek =
       let l = ap length (row-more gap p q i j) ∙ length-append (rowFrom gap p q i j 0) (rowFrom gap p q i 1 j) in
@@ -258,7 +268,8 @@ module _ (gap : Float) (p q : Pieces) (n m : ℕ) (hp : HasPieces p n) (hq : Has
   unfolding pairsFrom
   all-start u = (push-none p q 0 u, refl)
 
-  pub all-room : (i k : ℕ) (u₀ u : Nodes) → i < n → length (u .nets1) ≡ length (u₀ .nets1) → length (u .nets2) ≡ length (u₀ .nets2) → length (u .ranges) ≡ length (u₀ .ranges) → length (u .depths) ≡ length (u₀ .depths)
+  pub all-room : (i k : ℕ) (u₀ u : Nodes) → i < n → length (u .nets1) ≡ length (u₀ .nets1) → length (u .nets2) ≡ length (u₀ .nets2)
+      → length (u .ranges) ≡ length (u₀ .ranges) → length (u .depths) ≡ length (u₀ .depths)
       → Room p q (length (pairsFrom gap p q m n 0)) u₀ → k ≡ 0 + length (pairsFrom gap p q m i 0) → Room p q (k + length (rowFrom gap p q i m 0)) u
   all-room i k u₀ u lt e1 e2 e3 e4 h ek =
       let l = ap length (pairs-more gap p q m i) ∙ length-append (pairsFrom gap p q m i 0) (rowFrom gap p q i m 0) in

@@ -27,7 +27,8 @@ unfolding spanBezier netAt
 span-is p flat poles out u v s hu hs e =
     e ∙ rw (rest-of (s - p + 1) flat, rest-of (4 * (s - p)) poles, hs, hu) refl
 
-pub net-is : (p : ℕ) (knots flat poles : List Float) (t0 t1 m : Float) (a : Interval) (f0 f1 : Float) (l out : List Float) → m ≡ middle t0 t1 → l ≡ spanBezier p flat poles m → a ≡ spanAround knots m
+pub net-is : (p : ℕ) (knots flat poles : List Float) (t0 t1 m : Float) (a : Interval) (f0 f1 : Float) (l out : List Float) → m ≡ middle t0 t1
+    → l ≡ spanBezier p flat poles m → a ≡ spanAround knots m
     → f0 ≡ share (a .lo) (a .hi) t0 → f1 ≡ share (a .lo) (a .hi) t1 → out ≡ restricted f0 f1 (p + 1) l → out ≡ netOf p knots flat poles t0 t1
 unfolding netOf cutTo
 net-is p knots flat poles t0 t1 m a f0 f1 l out hm hl ha h0 h1 e = e ∙ rw (h0, h1, hl, ha, hm) refl
@@ -65,13 +66,15 @@ one-left p knots flat poles (x ∷ []) h = refl
 one-left p knots flat poles (x ∷ y ∷ l) h = absurd (omega arith)
 
 pub nets-done : (p : ℕ) (knots flat poles breaks : List Float) (i : ℕ) (out out₀ : List Float) → 1 ≤ length breaks → i ≤ length breaks - 1 → length breaks - 1 ≤ i
-    → drop (i * (4 * (p + 1))) out ≡ drop (i * (4 * (p + 1))) out₀ → take (i * (4 * (p + 1))) out ++ netsOf p knots flat poles (drop i breaks) ≡ netsOf p knots flat poles breaks
+    → drop (i * (4 * (p + 1))) out ≡ drop (i * (4 * (p + 1))) out₀
+    → take (i * (4 * (p + 1))) out ++ netsOf p knots flat poles (drop i breaks) ≡ netsOf p knots flat poles breaks
     → out ≡ patch out₀ 0 (netsOf p knots flat poles breaks)
 nets-done p knots flat poles breaks i out out₀ some h g e f =
     let n = 4 * (p + 1) in
     let z : i ≡ length breaks - 1 = omega arith in
     let d : length (drop i breaks) ≤ 1 = simp length-drop (omega arith) in
-    let f' : take (i * n) out ≡ netsOf p knots flat poles breaks = sym (append-nil (take (i * n) out)) ∙ ap (λ l. take (i * n) out ++ l) (sym (one-left p knots flat poles (drop i breaks) d)) ∙ f in
+    let f' : take (i * n) out ≡ netsOf p knots flat poles breaks = sym (append-nil (take (i * n) out))
+    ∙ ap (λ l. take (i * n) out ++ l) (sym (one-left p knots flat poles (drop i breaks) d)) ∙ f in
     let k : length (netsOf p knots flat poles breaks) ≡ i * n = length-nets p knots flat poles breaks ∙ ap (λ m. m * n) (sym z) in
     rw (zero-add, k) (sym (take-append-drop (i * n) out) ∙ ap (λ l. l ++ drop (i * n) out) f' ∙ ap (λ l. netsOf p knots flat poles breaks ++ l) e)
 

@@ -45,7 +45,8 @@ no-break : (p : ℕ) (knots flat poles : List Float) → netsOf p knots flat pol
 unfolding netsOf
 no-break p knots flat poles = refl
 
-one-more : (p : ℕ) (knots flat poles : List Float) (t0 t1 : Float) (ts : List Float) → netsOf p knots flat poles (t0 ∷ t1 ∷ ts) ≡ netOf p knots flat poles t0 t1 ++ netsOf p knots flat poles (t1 ∷ ts)
+one-more : (p : ℕ) (knots flat poles : List Float) (t0 t1 : Float) (ts : List Float)
+    → netsOf p knots flat poles (t0 ∷ t1 ∷ ts) ≡ netOf p knots flat poles t0 t1 ++ netsOf p knots flat poles (t1 ∷ ts)
 unfolding netsOf
 one-more p knots flat poles t0 t1 ts = refl
 
@@ -55,7 +56,8 @@ length-nets p knots flat poles (t0 ∷ []) = ap length (no-piece p knots flat po
 length-nets p knots flat poles (t0 ∷ t1 ∷ ts) =
     let r = length-nets p knots flat poles (t1 ∷ ts) in
     let l = length-net p knots flat poles t0 t1 in
-    ap length (one-more p knots flat poles t0 t1 ts) ∙ length-append (netOf p knots flat poles t0 t1) (netsOf p knots flat poles (t1 ∷ ts)) ∙ joined (length ts) (4 * (p + 1)) _ _ l r
+    ap length (one-more p knots flat poles t0 t1 ts) ∙ length-append (netOf p knots flat poles t0 t1) (netsOf p knots flat poles (t1 ∷ ts))
+    ∙ joined (length ts) (4 * (p + 1)) _ _ l r
   where
     joined : (k n a b : ℕ) → a ≡ n → b ≡ (suc k - 1) * n → a + b ≡ (suc (suc k) - 1) * n
     joined k n a b e f =

@@ -33,8 +33,10 @@ module _ (α β : NamedLft) (d : Poles) where
   abbrev pub Weights : Fml
   Weights = ShrSlice (β .mir) (β .lft) f64 .own (d .weights) (sliceVal (d .weights .ptr) (length (d .weights .now)) ∷ [])
 
-  pub opened : {M : Type 1} (𝓤 : URA M) (H : Heap 𝓤) (A : Atoms 𝓤) → Given 𝓤 H A → ent 𝓤 (sem 𝓤 H A Own) (sep 𝓤 (sem 𝓤 H A Coords) (sep 𝓤 (sem 𝓤 H A Weights) (sem 𝓤 H A Own)))
+  pub opened : {M : Type 1} (𝓤 : URA M) (H : Heap 𝓤) (A : Atoms 𝓤) → Given 𝓤 H A
+      → ent 𝓤 (sem 𝓤 H A Own) (sep 𝓤 (sem 𝓤 H A Coords) (sep 𝓤 (sem 𝓤 H A Weights) (sem 𝓤 H A Own)))
   opened 𝓤 H A W =
       qed W (‵ Own ∷ []) ∵ use1 W (‵ Own ⊛ ‵ Own) (LL.copy (T.the-type α β) (T′.the-copy α β) 𝓤 H A W .twice d (mach ∷ [])) $ split ! $
-      use1 W (given (mach ∷ [] ≡ mach ∷ []) (‵ (all-own (T.the-type α β .parts) (T′.the-laws α β) (d .coords, (d .weights, tt))))) (own-open 𝓤 H A W (T.the-type α β) (T′.the-laws α β) (d .coords, (d .weights, tt)) mach) $ learn ! (λ _.
+      use1 W (given (mach ∷ [] ≡ mach ∷ []) (‵ (all-own (T.the-type α β .parts) (T′.the-laws α β) (d .coords, (d .weights, tt)))))
+      (own-open 𝓤 H A W (T.the-type α β) (T′.the-laws α β) (d .coords, (d .weights, tt)) mach) $ learn ! (λ _.
       fsplit ! $ frame ! $ fsplit ! $ frame ! $ drop ! $ done !)

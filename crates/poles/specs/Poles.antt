@@ -29,4 +29,5 @@ homogeneousOf coords weights i = record {
 unfoldable pub homogeneousPoles : List Float → List Float → ℕ → ℕ → List Float
 homogeneousPoles coords weights zero i = []
 homogeneousPoles coords weights (suc n) i =
-    homogeneousOf coords weights i .x ∷ homogeneousOf coords weights i .y ∷ homogeneousOf coords weights i .z ∷ homogeneousOf coords weights i .w ∷ homogeneousPoles coords weights n (suc i)
+    homogeneousOf coords weights i .x ∷ homogeneousOf coords weights i .y ∷ homogeneousOf coords weights i .z ∷ homogeneousOf coords weights i .w ∷
+    homogeneousPoles coords weights n (suc i)

@@ -18,7 +18,8 @@ use Rattle.states.specs.declared.Counts.{Counts}
 use Rattle.printing.specs.Printed.{pairsName, visitsName, splitsName, settledName, givenName, leftName, regionsName, refusedText, space, newline, wordText, counted, stepsText, nodesText, countLine, refusalLine, floatTexts, regionLine, regionLines, regionText}
 
 -- a text written behind another
-pub joined : (l : List ℕ) (at : ℕ) (xs ys : List ℕ) {l1 l2 : List ℕ} {r1 r2 : ℕ} → (r1 ≡ at + length xs) × (l1 ≡ patch l at xs) → (r2 ≡ r1 + length ys) × (l2 ≡ patch l1 r1 ys) → r2 ≤ length l
+pub joined : (l : List ℕ) (at : ℕ) (xs ys : List ℕ) {l1 l2 : List ℕ} {r1 r2 : ℕ} → (r1 ≡ at + length xs) × (l1 ≡ patch l at xs)
+    → (r2 ≡ r1 + length ys) × (l2 ≡ patch l1 r1 ys) → r2 ≤ length l
     → (r2 ≡ at + length (xs ++ ys)) × (l2 ≡ patch l at (xs ++ ys))
 joined l at xs ys {l1} {l2} {r1} {r2} (a, b) (e, f) h =
     let n = length-append xs ys in
@@ -58,21 +59,33 @@ pub steps-are : (out : List ℕ) (at : ℕ) (c : Counts) {o1 o2 o3 : List ℕ} {
     → Counted out at pairsName (c .pairs) o1 r1 → Counted o1 r1 visitsName (c .visits) o2 r2 → Counted o2 r2 splitsName (c .splits) o3 r3
     → Wrote out at (stepsText c) o3 r3 × (r3 ≤ at + 83)
 unfolding stepsText
-steps-are out at c h a b d = (three out at (counted pairsName (c .pairs)) (counted visitsName (c .visits)) (counted splitsName (c .splits)) (a .0) (b .0) (d .0) (omega (arith, a .1, b .1, d .1)), omega (arith, a .1, b .1, d .1))
+steps-are out at c h a b d = (
+  three out at (counted pairsName (c .pairs)) (counted visitsName (c .visits)) (counted splitsName (c .splits)) (a .0) (b .0) (d .0)
+      (omega (arith, a .1, b .1, d .1)),
+  omega (arith, a .1, b .1, d .1),
+)
 
 pub nodes-are : (out : List ℕ) (at : ℕ) (c : Counts) {o1 o2 o3 : List ℕ} {r1 r2 r3 : ℕ} → at + 82 ≤ length out
     → Counted out at settledName (c .settled) o1 r1 → Counted o1 r1 givenName (c .given) o2 r2 → Counted o2 r2 leftName (c .left) o3 r3
     → Wrote out at (nodesText c) o3 r3 × (r3 ≤ at + 82)
 unfolding nodesText
-nodes-are out at c h a b d = (three out at (counted settledName (c .settled)) (counted givenName (c .given)) (counted leftName (c .left)) (a .0) (b .0) (d .0) (omega (arith, a .1, b .1, d .1)), omega (arith, a .1, b .1, d .1))
+nodes-are out at c h a b d = (
+  three out at (counted settledName (c .settled)) (counted givenName (c .given)) (counted leftName (c .left)) (a .0) (b .0) (d .0)
+      (omega (arith, a .1, b .1, d .1)),
+  omega (arith, a .1, b .1, d .1),
+)
 
 pub counts-are : (out : List ℕ) (w : Word) (c : Counts) (n : ℕ) {o1 o2 o3 o4 o5 : List ℕ} {r1 r2 r3 r4 r5 : ℕ} → 206 ≤ length out
-    → Wrote out 0 (wordText w) o1 r1 × (r1 ≤ 11) → Wrote o1 r1 (stepsText c) o2 r2 × (r2 ≤ r1 + 83) → Wrote o2 r2 (nodesText c) o3 r3 × (r3 ≤ r2 + 82) → Counted o3 r3 regionsName n o4 r4 → Wrote o4 r4 newline o5 r5
+    → Wrote out 0 (wordText w) o1 r1 × (r1 ≤ 11) → Wrote o1 r1 (stepsText c) o2 r2 × (r2 ≤ r1 + 83) → Wrote o2 r2 (nodesText c) o3 r3 × (r3 ≤ r2 + 82)
+    → Counted o3 r3 regionsName n o4 r4 → Wrote o4 r4 newline o5 r5
     → Wrote out 0 (countLine w c n) o5 r5 × (r5 ≤ 206)
 unfolding countLine
 counts-are out w c n h (a, a') (b, b') (d, d') (e, e') f =
-    let k = f .0 in
-    (three out 0 (wordText w ++ stepsText c ++ nodesText c) (counted regionsName n) newline (three out 0 (wordText w) (stepsText c) (nodesText c) a b d (omega arith)) e f (omega arith), omega arith)
+    let k = f .0 in (
+      three out 0 (wordText w ++ stepsText c ++ nodesText c) (counted regionsName n) newline
+          (three out 0 (wordText w) (stepsText c) (nodesText c) a b d (omega arith)) e f (omega arith),
+      omega arith,
+    )
 
 pub refusal-is : (out : List ℕ) (number line : ℕ) {o1 o2 o3 : List ℕ} {r1 r2 r3 : ℕ} → 50 ≤ length out
     → Counted out 0 refusedText number o1 r1 → Counted o1 r1 space line o2 r2 → Wrote o2 r2 newline o3 r3 → Wrote out 0 (refusalLine number line) o3 r3
@@ -95,14 +108,16 @@ unfolding floatTexts
 texts-start out at xs = let z : at + 0 ≡ at = omega arith in sym (rw z (take-append-drop at out))
 
 pub texts-turn : (out₀ : List ℕ) (at : ℕ) (xs : List Float) (i : ℕ) {out out' : List ℕ} {here here' : ℕ} → i < length xs → at + 17 * length xs ≤ length out₀
-    → here ≡ at + 17 * i → out ≡ patch out₀ at (floatTexts (take i xs)) → (here' ≡ here + length (floatText (getD xs i nan))) × (out' ≡ patch out here (floatText (getD xs i nan)))
+    → here ≡ at + 17 * i → out ≡ patch out₀ at (floatTexts (take i xs))
+    → (here' ≡ here + length (floatText (getD xs i nan))) × (out' ≡ patch out here (floatText (getD xs i nan)))
     → (here' ≡ at + 17 * (i + 1)) × (out' ≡ patch out₀ at (floatTexts (take (i + 1) xs)))
 texts-turn out₀ at xs i {out} {out'} {here} {here'} h room e f g =
     let k = float-length (getD xs i nan) in
     let n = texts-length (take i xs) in
     let m : length (take i xs) ≡ i = length-take-le i xs (omega arith) in
     let t : take (i + 1) xs ≡ take i xs ++ (getD xs i nan ∷ []) = rw add-one (take-suc xs i nan h) in
-    let j = joined out₀ at (floatTexts (take i xs)) (floatText (getD xs i nan)) {l1 = out} {l2 = out'} {r1 = here} {r2 = here'} (omega arith, f) g (omega (arith, g .0)) in
+    let j = joined out₀ at (floatTexts (take i xs)) (floatText (getD xs i nan)) {l1 = out} {l2 = out'} {r1 = here} {r2 = here'} (omega arith, f) g
+    (omega (arith, g .0)) in
     (omega (arith, g .0), j .1 ∙ ap (patch out₀ at) (sym (texts-snoc (take i xs) (getD xs i nan)) ∙ ap floatTexts (sym t)))
 
 pub texts-done : (out₀ : List ℕ) (at : ℕ) (xs : List Float) (i : ℕ) {out : List ℕ} {here : ℕ} → length xs ≤ i → i ≤ length xs
@@ -154,7 +169,8 @@ pub regions-turn : (out₀ : List ℕ) (at : ℕ) (list : List Float) (k n : ℕ
 regions-turn out₀ at list k n {out} {out'} {here} {here'} h few room e f (g, g') =
     let a = lines-length k list (omega arith) in
     let p = part-is (k * 10) 10 list in
-    let w : Wrote out here (regionLine (block 10 k list)) out' here' = (g .0 ∙ ap (λ (l : List Float). here + length (regionLine l)) p, g .1 ∙ ap (λ (l : List Float). patch out here (regionLine l)) p) in
+    let w : Wrote out here (regionLine (block 10 k list)) out' here' =
+    (g .0 ∙ ap (λ (l : List Float). here + length (regionLine l)) p, g .1 ∙ ap (λ (l : List Float). patch out here (regionLine l)) p) in
     let j = joined out₀ at (regionLines k list) (regionLine (block 10 k list)) {l1 = out} {l2 = out'} {r1 = here} {r2 = here'} (omega arith, f) w (omega arith) in
     (omega arith, j .1 ∙ ap (patch out₀ at) (sym (lines-next k list)))
 

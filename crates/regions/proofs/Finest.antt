@@ -114,5 +114,6 @@ one-member g r (x ∷ l) p t (inr h) (inl k) = absurd (none-off r g x l k h (p .
 one-member g r (x ∷ l) p t (inr h) (inr k) = inr (one-member g r l (p .1) t h k)
 
 -- each merged region lies inside one member of any list, no two of which touch, that has each listed region inside a member
-pub finest : (raw other : List Region) → Pairwise (Off merging) other → All (λ (r : Region). Any (Inside r) other) raw → All (λ (r : Region). Any (Inside r) other) (merged merging raw)
+pub finest : (raw other : List Region) → Pairwise (Off merging) other → All (λ (r : Region). Any (Inside r) other) raw
+    → All (λ (r : Region). Any (Inside r) other) (merged merging raw)
 finest raw other p h = merged-all merging (λ (r : Region). Any (Inside r) other) (λ g r t a b. one-member g r other p t a b) raw h

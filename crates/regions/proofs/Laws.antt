@@ -58,7 +58,17 @@ pub ten-read : (l : List Float) (i : ℕ)
 ten-read l i =
     let z : getD (drop i l) 0 nan ≡ getD l i nan = getD-drop i l 0 nan ∙ rw add-zero refl in
     let e = region-start 10 (drop i l) (omega arith) in
-    cc (getD-drop i l 1 nan, getD-drop i l 2 nan, getD-drop i l 3 nan, getD-drop i l 4 nan, getD-drop i l 5 nan, getD-drop i l 6 nan, getD-drop i l 7 nan, getD-drop i l 8 nan, getD-drop i l 9 nan)
+    cc (
+      getD-drop i l 1 nan,
+      getD-drop i l 2 nan,
+      getD-drop i l 3 nan,
+      getD-drop i l 4 nan,
+      getD-drop i l 5 nan,
+      getD-drop i l 6 nan,
+      getD-drop i l 7 nan,
+      getD-drop i l 8 nan,
+      getD-drop i l 9 nan,
+    )
 
 -- the ten floats of a region that is read are the list's first ten
 pub flat-read : (l : List Float) → 10 ≤ length l → flat (regionAt l) ≡ take 10 l
@@ -116,7 +126,8 @@ regions-set (suc i) (suc n) l r h f =
     let e : suc i * 10 ≡ 10 + i * 10 = omega arith in
     let d = length-drop 10 l in
     rw (e, patch-later l (flat r) (i * 10))
-    (regions-join n l (patch (drop 10 l) (i * 10) (flat r)) (omega arith) ∙ ap (λ (z : List Region). regionAt l ∷ z) (regions-set i n (drop 10 l) r (omega arith) (omega arith)))
+    (regions-join n l (patch (drop 10 l) (i * 10) (flat r)) (omega arith)
+    ∙ ap (λ (z : List Region). regionAt l ∷ z) (regions-set i n (drop 10 l) r (omega arith) (omega arith)))
 
 -- the floats of the first m regions are the list's first m * 10
 pub flats-read : (m : ℕ) (l : List Float) → m * 10 ≤ length l → flats (regionsIn m l) ≡ take (m * 10) l
@@ -137,13 +148,20 @@ rest-set i n l r h f =
     let a : drop (i * 10 + 10) (patch l (i * 10) (flat r)) ≡ drop (i * 10 + 10) l =
     ap (drop (i * 10 + 10)) (sym (append-assoc (take (i * 10) l) (flat r) (drop (i * 10 + 10) l)))
     ∙ drop-at (take (i * 10) l ++ flat r) (drop (i * 10 + 10) l) (i * 10 + 10) (length-append (take (i * 10) l) (flat r) ∙ ap (λ (z : ℕ). z + 10) t) in
-    ap (λ (z : ℕ). drop z (patch l (i * 10) (flat r))) e ∙ sym (drop-drop m (i * 10 + 10) (patch l (i * 10) (flat r))) ∙ ap (drop m) a ∙ drop-drop m (i * 10 + 10) l ∙ ap (λ (z : ℕ). drop z l) (sym e)
+    ap (λ (z : ℕ). drop z (patch l (i * 10) (flat r))) e ∙ sym (drop-drop m (i * 10 + 10) (patch l (i * 10) (flat r))) ∙ ap (drop m) a
+    ∙ drop-drop m (i * 10 + 10) l ∙ ap (λ (z : ℕ). drop z l) (sym e)
 
 -- a region stored behind the first k
 pub regions-snoc : (k : ℕ) (l : List Float) (r : Region) → (k + 1) * 10 ≤ length l → regionsIn (k + 1) (patch l (k * 10) (flat r)) ≡ regionsIn k l ++ (r ∷ [])
 regions-snoc k l r h =
     let n = regions-length (suc k) l in
-    rw (add-one, regions-set k (suc k) l r (omega arith) (omega arith), set-split (regionsIn (suc k) l) k r (omega arith), regions-take k (suc k) l (omega arith), nothing-left (regionsIn (suc k) l) (suc k) (omega arith)) refl
+    rw (
+      add-one,
+      regions-set k (suc k) l r (omega arith) (omega arith),
+      set-split (regionsIn (suc k) l) k r (omega arith),
+      regions-take k (suc k) l (omega arith),
+      nothing-left (regionsIn (suc k) l) (suc k) (omega arith),
+    ) refl
 
 -- regions are their floats, whatever stands behind, and only these are read
 pub regions-flats : (rs : List Region) (l : List Float) → regionsIn (length rs) (flats rs ++ l) ≡ rs
@@ -163,7 +181,8 @@ regions-start n m l h = regions-same n (take m l) l (λ (i : ℕ) (k : i < n). a
 -- the list of regions that stands in a list, from its floats
 pub regions-read : (m : ℕ) (l : List Float) (rs : List Region) → length rs ≡ m → take (m * 10) l ≡ flats rs → regionsIn m l ≡ rs
 regions-read m l rs k e =
-    sym (regions-start m (m * 10) l (omega arith)) ∙ ap (regionsIn m) (e ∙ sym (append-nil (flats rs))) ∙ ap (λ (z : ℕ). regionsIn z (flats rs ++ [])) (sym k) ∙ regions-flats rs []
+    sym (regions-start m (m * 10) l (omega arith)) ∙ ap (regionsIn m) (e ∙ sym (append-nil (flats rs)))
+    ∙ ap (λ (z : ℕ). regionsIn z (flats rs ++ [])) (sym k) ∙ regions-flats rs []
 
 -- ---- lists: what stands further on, and a part filled with one value
 pub drop-more : {A : Type 0} (a b : ℕ) (l l' : List A) → a ≤ b → drop a l ≡ drop a l' → drop b l ≡ drop b l'

@@ -56,7 +56,8 @@ module _ (n : ℕ) (r : Region) (l₀ l : List Float) (s : Swept) (i : ℕ) (p :
     where
       go : (b : Bool) → w .grown ≡ take1 merging b (s .grown) x → w .kept ≡ cond b (s .kept) (s .kept + 1) → l' ≡ cond b l (patch l (s .kept * 10) (flat x))
           → grown merging (take1 merging b (s .grown) x) (drop (suc i) (regionsIn n l)) ≡ grown merging r (regionsIn n l₀)
-          → take (s .kept) (regionsIn n l) ++ keep1 merging b x (remaining merging (take1 merging b (s .grown) x) (drop (suc i) (regionsIn n l))) ≡ remaining merging r (regionsIn n l₀)
+          → take (s .kept) (regionsIn n l) ++ keep1 merging b x (remaining merging (take1 merging b (s .grown) x) (drop (suc i) (regionsIn n l)))
+          ≡ remaining merging r (regionsIn n l₀)
           → Pass n r l₀ l' w (i + 1)
       go true eg ek el a b = record {
         same = ap length el ∙ p .same;
@@ -76,7 +77,18 @@ module _ (n : ℕ) (r : Region) (l₀ l : List Float) (s : Swept) (i : ℕ) (p :
             at = omega arith;
             behind = omega arith;
             grows = rw (eg, el, v, add-one, drop-set-lt (suc i) (regionsIn n l) (s .kept) x (omega arith)) a;
-            stays = rw (eg, ek, el, v, add-one (s .kept), add-one i, drop-set-lt (suc i) (regionsIn n l) (s .kept) x (omega arith), take-suc-set (regionsIn n l) (s .kept) x (omega arith), append-assoc) b;
+            stays =
+                rw (
+                  eg,
+                  ek,
+                  el,
+                  v,
+                  add-one (s .kept),
+                  add-one i,
+                  drop-set-lt (suc i) (regionsIn n l) (s .kept) x (omega arith),
+                  take-suc-set (regionsIn n l) (s .kept) x (omega arith),
+                  append-assoc,
+                ) b;
             rest = rw el (rest-set (s .kept) n l x (omega arith) (omega arith)) ∙ p .rest;
           }
 
@@ -89,7 +101,9 @@ module _ (n : ℕ) (r : Region) (l₀ l : List Float) (s : Swept) (i : ℕ) (p :
     pass-grown = rw none-left at (p .grows)
 
     pub pass-stays : regionsIn (s .kept) l ≡ remaining merging r (regionsIn n l₀)
-    pass-stays = let k = p .behind in let a = p .at in sym (regions-take (s .kept) n l (omega arith)) ∙ sym (append-nil (take (s .kept) (regionsIn n l))) ∙ (rw none-left at (p .stays))
+    pass-stays =
+        let k = p .behind in let a = p .at in sym (regions-take (s .kept) n l (omega arith)) ∙ sym (append-nil (take (s .kept) (regionsIn n l)))
+        ∙ (rw none-left at (p .stays))
 
     pub pass-kept : s .kept ≡ length (remaining merging r (regionsIn n l₀))
     pass-kept = sym (regions-length (s .kept) l) ∙ ap length pass-stays
@@ -147,10 +161,13 @@ module _ (l₀ : List Float) (had₀ : ℕ) (s₀ : Swept) (l : List Float) (had
         sym (grow-still (p .fuel) (s .grown) (regionsIn had l)) ∙ (rw (eq-eqb (s .kept) had e, e) at (p .follows))
 
 -- the first pass over the n regions of e, the passes of the loop, and the region stored
-pub absorbed : (n : ℕ) (r : Region) (e l₀ : List Float) (s₀ : Swept) (l : List Float) (had : ℕ) (s : Swept) (l' : List Float) → (n + 1) * 10 ≤ length e → length l₀ ≡ length e
-    → s₀ .grown ≡ grown merging r (regionsIn n e) → s₀ .kept ≡ length (remaining merging r (regionsIn n e)) → regionsIn (s₀ .kept) l₀ ≡ remaining merging r (regionsIn n e)
+pub absorbed : (n : ℕ) (r : Region) (e l₀ : List Float) (s₀ : Swept) (l : List Float) (had : ℕ) (s : Swept) (l' : List Float)
+    → (n + 1) * 10 ≤ length e → length l₀ ≡ length e
+    → s₀ .grown ≡ grown merging r (regionsIn n e) → s₀ .kept ≡ length (remaining merging r (regionsIn n e))
+    → regionsIn (s₀ .kept) l₀ ≡ remaining merging r (regionsIn n e)
     → drop (n * 10) l₀ ≡ drop (n * 10) e → Passes l₀ n s₀ l had s → had ≤ s .kept → l' ≡ patch l (had * 10) (flat (s .grown))
-    → ((had + 1 ≡ length (takeIn merging r (regionsIn n e))) × (had + 1 ≤ n + 1)) × ((regionsIn (had + 1) l' ≡ takeIn merging r (regionsIn n e)) × (drop ((n + 1) * 10) l' ≡ drop ((n + 1) * 10) e))
+    → ((had + 1 ≡ length (takeIn merging r (regionsIn n e))) × (had + 1 ≤ n + 1))
+    × ((regionsIn (had + 1) l' ≡ takeIn merging r (regionsIn n e)) × (drop ((n + 1) * 10) l' ≡ drop ((n + 1) * 10) e))
 absorbed n r e l₀ s₀ l had s l' room same eg ek es er p end el =
     let q = p .same in
     let f = p .fewer in
@@ -163,7 +180,9 @@ absorbed n r e l₀ s₀ l had s l' room same eg ek es er p end el =
       (sym (regions-length (had + 1) l') ∙ ap length a, omega arith),
       (
         a,
-        ap (drop ((n + 1) * 10)) el ∙ drop-more ((had + 1) * 10) ((n + 1) * 10) (patch l (had * 10) (flat (s .grown))) l (omega arith) (rest-set had (had + 1) l (s .grown) (omega arith) (omega arith))
+        ap (drop ((n + 1) * 10)) el
+            ∙ drop-more ((had + 1) * 10) ((n + 1) * 10) (patch l (had * 10) (flat (s .grown))) l (omega arith)
+            (rest-set had (had + 1) l (s .grown) (omega arith) (omega arith))
             ∙ drop-more (n * 10) ((n + 1) * 10) l e (omega arith) (p .rest ∙ er),
       ),
     )
@@ -195,7 +214,8 @@ module _ (raw : List Float) (n : ℕ) (l₀ l : List Float) (m i : ℕ) (p : Gat
         same = same ∙ p .same;
         at = omega arith;
         follows = ap (gather merging (reverse (regionsIn (i - 1) raw))) es
-            ∙ ap (λ (z : List Region). gather merging z (regionsIn m l)) (ap (λ (z : Region). z ∷ reverse (regionsIn (i - 1) raw)) ex ∙ sym (last-first (i - 1) raw) ∙ ap (λ (z : ℕ). reverse (regionsIn z raw)) (sym k))
+            ∙ ap (λ (z : List Region). gather merging z (regionsIn m l)) (ap (λ (z : Region). z ∷ reverse (regionsIn (i - 1) raw)) ex
+            ∙ sym (last-first (i - 1) raw) ∙ ap (λ (z : ℕ). reverse (regionsIn z raw)) (sym k))
             ∙ p .follows;
         rest = drop-more ((m + 1) * 10) (n * 10) l' l (omega arith) er ∙ p .rest;
       }

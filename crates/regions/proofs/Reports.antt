@@ -51,14 +51,19 @@ pub merged-done : (raw l₀ l₁ l₂ l₃ : List Float) (n m : ℕ) → n * 10 
     → (m ≡ length (merged merging (regionsIn n raw))) × (l₃ ≡ reportSlice n (merged merging (regionsIn n raw)) l₀)
 merged-done raw l₀ l₁ l₂ l₃ n m room le eg er es et el =
     let e : regionsIn m l₂ ≡ merged merging (regionsIn n raw) = es ∙ ap (ordered merging) eg in
-    let k : length (merged merging (regionsIn n raw)) ≡ m = sym (ap length e) ∙ regions-length m l₂ in
-    (sym k, report-is n m (merged merging (regionsIn n raw)) l₀ l₂ l₃ le k (sym (flats-read m l₂ (omega arith)) ∙ ap flats e) (drop-more (m * 10) (n * 10) l₂ l₁ (omega arith) et ∙ er) el)
+    let k : length (merged merging (regionsIn n raw)) ≡ m = sym (ap length e) ∙ regions-length m l₂ in (
+      sym k,
+      report-is n m (merged merging (regionsIn n raw)) l₀ l₂ l₃ le k (sym (flats-read m l₂ (omega arith)) ∙ ap flats e)
+          (drop-more (m * 10) (n * 10) l₂ l₁ (omega arith) et ∙ er) el,
+    )
 
 -- the regions of a report are read back from its slice
 pub report-read : (n : ℕ) (rs : List Region) (l : List Float) → take (length rs * 10) (reportSlice n rs l) ≡ flats rs
 report-read n rs l =
-    ap (take (length rs * 10)) (append-assoc (flats rs) (replicate (n * 10 - length rs * 10) zero64) (drop (0 + length (flats rs ++ replicate (n * 10 - length rs * 10) zero64)) l))
-    ∙ take-at (flats rs) (replicate (n * 10 - length rs * 10) zero64 ++ drop (0 + length (flats rs ++ replicate (n * 10 - length rs * 10) zero64)) l) (length rs * 10) (flats-length rs)
+    ap (take (length rs * 10)) (append-assoc (flats rs) (replicate (n * 10 - length rs * 10) zero64)
+    (drop (0 + length (flats rs ++ replicate (n * 10 - length rs * 10) zero64)) l))
+    ∙ take-at (flats rs) (replicate (n * 10 - length rs * 10) zero64 ++ drop (0 + length (flats rs ++ replicate (n * 10 - length rs * 10) zero64)) l)
+    (length rs * 10) (flats-length rs)
 
 -- the word is complete exactly where nothing was given up and nothing is left
 pub word-exact : (g l : ℕ) → (wordFor g l ≡ Complete) ↔ ((g ≡ 0) × (l ≡ 0))

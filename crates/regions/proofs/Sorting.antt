@@ -38,16 +38,19 @@ module _ (k n : ℕ) (r : Region) (l₀ l : List Float) (j : ℕ) (p : Inserting
       → insert merging r (drop (j + 1) (regionsIn n l)) ≡ cond b (y ∷ insert merging r (drop (suc (j + 1)) (regionsIn n l))) (r ∷ y ∷ drop (suc (j + 1)) (regionsIn n l))
   inserted y b h e q =
       let t : lt (y .a0) (r .a0) ≡ b = ap (λ (z : Region). lt (z .a0) (r .a0)) e ∙ ap (λ (z : Float). lt z (r .a0)) (start-read (j + 1) l) ∙ q in
-      ap (insert merging r) (next y h e) ∙ ap (λ (z : Bool). cond z (y ∷ insert merging r (drop (suc (j + 1)) (regionsIn n l))) (r ∷ y ∷ drop (suc (j + 1)) (regionsIn n l))) t
+      ap (insert merging r) (next y h e)
+      ∙ ap (λ (z : Bool). cond z (y ∷ insert merging r (drop (suc (j + 1)) (regionsIn n l))) (r ∷ y ∷ drop (suc (j + 1)) (regionsIn n l))) t
 
-  pub insert-turn : (l' : List Float) (y : Region) → j + 1 < n → lt (getD l ((j + 1) * 10) nan) (r .a0) ≡ true → y ≡ regionAt (block 10 (j + 1) l) → l' ≡ patch l (j * 10) (flat y)
+  pub insert-turn : (l' : List Float) (y : Region) → j + 1 < n → lt (getD l ((j + 1) * 10) nan) (r .a0) ≡ true → y ≡ regionAt (block 10 (j + 1) l)
+      → l' ≡ patch l (j * 10) (flat y)
       → Inserting k n r l₀ l' (j + 1)
   insert-turn l' y h q ey el =
       let s = p .same in
       let n' = regions-length n l in
       let v : regionsIn n l' ≡ set (regionsIn n l) j y = ap (regionsIn n) el ∙ regions-set j n l y (omega arith) (omega arith) in
       let t : take (j + 1) (set (regionsIn n l) j y) ≡ take j (regionsIn n l) ++ (y ∷ []) = rw add-one (take-suc-set (regionsIn n l) j y (omega arith)) in
-      let d : drop (j + 1 + 1) (set (regionsIn n l) j y) ≡ drop (suc (j + 1)) (regionsIn n l) = rw add-one (drop-set-lt (suc (j + 1)) (regionsIn n l) j y (omega arith)) in
+      let d : drop (j + 1 + 1) (set (regionsIn n l) j y)
+      ≡ drop (suc (j + 1)) (regionsIn n l) = rw add-one (drop-set-lt (suc (j + 1)) (regionsIn n l) j y (omega arith)) in
       record {
         same = ap length el ∙ patch-length l (j * 10) (flat y) (omega arith) ∙ p .same;
         at = h;
@@ -64,14 +67,16 @@ module _ (k n : ℕ) (r : Region) (l₀ l : List Float) (j : ℕ) (p : Inserting
       let y = regionAt (block 10 (j + 1) l) in
       inserted y false h refl q ∙ ap (λ (z : List Region). r ∷ z) (sym (next y h refl))
 
-  pub insert-done : (l' : List Float) (x : Region) → insert merging r (drop (j + 1) (regionsIn n l)) ≡ r ∷ drop (j + 1) (regionsIn n l) → l' ≡ patch l (j * 10) (flat r) → r ≡ x
+  pub insert-done : (l' : List Float) (x : Region) → insert merging r (drop (j + 1) (regionsIn n l)) ≡ r ∷ drop (j + 1) (regionsIn n l)
+      → l' ≡ patch l (j * 10) (flat r) → r ≡ x
       → (regionsIn n l' ≡ take k (regionsIn n l₀) ++ insert merging x (drop (k + 1) (regionsIn n l₀))) × (drop (n * 10) l' ≡ drop (n * 10) l₀)
   insert-done l' x e el ex =
       let s = p .same in
       let q = p .at in
       let n' = regions-length n l in
       let c : r ∷ drop (suc j) (regionsIn n l) ≡ insert merging r (drop (j + 1) (regionsIn n l)) = rw (← add-one j) (sym e) in (
-        ap (regionsIn n) el ∙ regions-set j n l r (omega arith) (omega arith) ∙ set-split (regionsIn n l) j r (omega arith) ∙ ap (λ (z : List Region). take j (regionsIn n l) ++ z) c ∙ p .follows
+        ap (regionsIn n) el ∙ regions-set j n l r (omega arith) (omega arith) ∙ set-split (regionsIn n l) j r (omega arith)
+            ∙ ap (λ (z : List Region). take j (regionsIn n l) ++ z) c ∙ p .follows
             ∙ ap (λ (z : Region). take k (regionsIn n l₀) ++ insert merging z (drop (k + 1) (regionsIn n l₀))) ex,
         ap (drop (n * 10)) el ∙ rest-set j n l r (omega arith) (omega arith) ∙ p .rest,
       )
@@ -92,7 +97,8 @@ sort-start n l =
 
 module _ (n : ℕ) (l₀ l : List Float) (k : ℕ) (p : Sorting n l₀ l k) where
   pub sort-turn : (l' : List Float) → 0 < k → length l' ≡ length l
-      → regionsIn n l' ≡ take (k - 1) (regionsIn n l) ++ insert merging (regionAt (block 10 (k - 1) l)) (drop (k - 1 + 1) (regionsIn n l)) → drop (n * 10) l' ≡ drop (n * 10) l
+      → regionsIn n l' ≡ take (k - 1) (regionsIn n l) ++ insert merging (regionAt (block 10 (k - 1) l)) (drop (k - 1 + 1) (regionsIn n l))
+      → drop (n * 10) l' ≡ drop (n * 10) l
       → Sorting n l₀ l' (k - 1)
   sort-turn l' pos same es er =
       let a = p .at in
@@ -103,7 +109,8 @@ module _ (n : ℕ) (l₀ l : List Float) (k : ℕ) (p : Sorting n l₀ l k) wher
       let ej : suc (k - 1) ≡ k = omega arith in
       let lj = length-take-le (k - 1) (regionsIn n l) (omega arith) in
       let x : regionAt (block 10 (k - 1) l) ≡ getD (regionsIn n l₀) (k - 1) d =
-      sym (region-get (k - 1) n l d (omega arith)) ∙ sym (getD-take k (regionsIn n l) (k - 1) d (omega arith)) ∙ ap (λ (z : List Region). getD z (k - 1) d) (p .before) ∙ getD-take k (regionsIn n l₀) (k - 1) d (omega arith) in
+      sym (region-get (k - 1) n l d (omega arith)) ∙ sym (getD-take k (regionsIn n l) (k - 1) d (omega arith))
+      ∙ ap (λ (z : List Region). getD z (k - 1) d) (p .before) ∙ getD-take k (regionsIn n l₀) (k - 1) d (omega arith) in
       let t : drop (k - 1) (regionsIn n l₀) ≡ getD (regionsIn n l₀) (k - 1) d ∷ drop k (regionsIn n l₀) =
       drop-cons (regionsIn n l₀) (k - 1) d (omega arith) ∙ ap (λ (z : ℕ). getD (regionsIn n l₀) (k - 1) d ∷ drop z (regionsIn n l₀)) ej in
       record {

@@ -48,7 +48,8 @@ module _ (G : Geometry) (x : State) (nets1 nets2 ranges : List Float) where
       e' ∙ ap (λ (l : List Float). patch l ((g + k) * 10) (flat r)) e
       ∙ patch-twice raw₀ (g * 10) ((g + k) * 10) (flats L) (flat r) n (omega arith)
       ∙ ap (λ (z : Region). patch raw₀ (g * 10) (flats L ++ flat z)) f
-      ∙ ap (patch raw₀ (g * 10)) (sym (flats-snoc L (slotRegion G x nets1 nets2 ranges k)) ∙ ap (λ (j : ℕ). flats (leftRegions G x nets1 nets2 ranges j)) (sym (add-one k)))
+      ∙ ap (patch raw₀ (g * 10))
+      (sym (flats-snoc L (slotRegion G x nets1 nets2 ranges k)) ∙ ap (λ (j : ℕ). flats (leftRegions G x nets1 nets2 ranges j)) (sym (add-one k)))
 
   pub left-done : (raw₀ raw : List Float) (g k n : ℕ) → n ≤ k → k ≤ n → raw ≡ patch raw₀ (g * 10) (flats (leftRegions G x nets1 nets2 ranges k))
       → raw ≡ patch raw₀ (g * 10) (flats (leftRegions G x nets1 nets2 ranges n))
@@ -103,15 +104,18 @@ module _ (G : Geometry) (x : State) (u : Memory) (slice : List Float) where
   pub report-short : over x ≡ true → enough (needed x) (sizes u) ≡ false → reporting NoRoom u slice ≡ reportDef G x u slice
   report-short o e = rw (o, e) refl
 
-  pub report-cramped : over x ≡ true → enough (needed x) (sizes u) ≡ true → leb (x .pairs * suc (x .quota) * 10) (length slice) ≡ false → reporting NoRoom u slice ≡ reportDef G x u slice
+  pub report-cramped : over x ≡ true → enough (needed x) (sizes u) ≡ true → leb (x .pairs * suc (x .quota) * 10) (length slice) ≡ false
+      → reporting NoRoom u slice ≡ reportDef G x u slice
   report-cramped o e l = rw (o, e, l) refl
 
-  pub report-forged : over x ≡ true → enough (needed x) (sizes u) ≡ true → leb (x .pairs * suc (x .quota) * 10) (length slice) ≡ true → isSearch x u ≡ false → reporting NoRoom u slice ≡ reportDef G x u slice
+  pub report-forged : over x ≡ true → enough (needed x) (sizes u) ≡ true → leb (x .pairs * suc (x .quota) * 10) (length slice) ≡ true
+      → isSearch x u ≡ false → reporting NoRoom u slice ≡ reportDef G x u slice
   report-forged o e l s = rw (o, e, l, s) refl
 
   pub report-told : over x ≡ true → enough (needed x) (sizes u) ≡ true → leb (x .pairs * suc (x .quota) * 10) (length slice) ≡ true → isSearch x u ≡ true
       → (w : Word) (c : Counts) (n : ℕ) (raw out : List Float) → w ≡ wordFor (x .given) (x .waiting) → c ≡ countsOf x
-      → raw ≡ rawAfter G x u → n ≡ length (merged merging (regionsIn (x .given + x .waiting) raw)) → out ≡ reportSlice (x .given + x .waiting) (merged merging (regionsIn (x .given + x .waiting) raw)) slice
+      → raw ≡ rawAfter G x u → n ≡ length (merged merging (regionsIn (x .given + x .waiting) raw))
+      → out ≡ reportSlice (x .given + x .waiting) (merged merging (regionsIn (x .given + x .waiting) raw)) slice
       → reporting (Told w c n) (memory (u .nets1) (u .nets2) (u .ranges) (u .depths) raw) out ≡ reportDef G x u slice
   report-told o e l s w c n raw out ew ec er en eo =
       let fn = en ∙ ap (λ (r : List Float). length (merged merging (regionsIn (x .given + x .waiting) r))) er in

@@ -37,7 +37,9 @@ neg-fields f (suc x) t h = go (eqb (suc x) (ones f)) (eqb t 0)
     go : (b c : Bool) → rootIn f (cond b (cond c (inf true) nan) (odd (prec f) true (hid f + t) x (low f))) ≡ nan
     go true true = refl
     go true false = refl
-    go false c = neg-root f (odd (prec f) true (hid f + t) x (low f)) ((hid f + t) * 2 ^ x) (2 ^ low f) (odd-sign (prec f) true (hid f + t) x (low f)) (mul-pos (let w = hid-pos f in omega arith) (pow-pos x))
+    go false c =
+        neg-root f (odd (prec f) true (hid f + t) x (low f)) ((hid f + t) * 2 ^ x) (2 ^ low f) (odd-sign (prec f) true (hid f + t) x (low f))
+        (mul-pos (let w = hid-pos f in omega arith) (pow-pos x))
 
 -- the digits' field of a pattern is that of the pattern with no sign
 field : (f : Format) (b : ℕ) → b % top f % hid f ≡ b % hid f

@@ -56,8 +56,11 @@ shape : (l m : ℕ) (e : ℤ) → down e ≤ 2 ^ l → (z : ℕ) × (m * up e * 
 shape l m (pos k) h = (k + l, mul-assoc m (2 ^ k) (2 ^ l) ∙ ap (λ (x : ℕ). m * x) (sym (pow-add 2 k l)) ∙ sym (mul-one (m * 2 ^ (k + l))))
 shape l m (negsuc k) h =
     let g : suc k ≤ l = power-le (suc k) l h in
-    let w : l - suc k + suc k ≡ l = omega arith in
-    (l - suc k, ap (λ (x : ℕ). x * 2 ^ l) (mul-one m) ∙ ap (λ (x : ℕ). m * 2 ^ x) (sym w) ∙ ap (λ (x : ℕ). m * x) (pow-add 2 (l - suc k) (suc k)) ∙ sym (mul-assoc m (2 ^ (l - suc k)) (2 ^ suc k)))
+    let w : l - suc k + suc k ≡ l = omega arith in (
+      l - suc k,
+      ap (λ (x : ℕ). x * 2 ^ l) (mul-one m) ∙ ap (λ (x : ℕ). m * 2 ^ x) (sym w) ∙ ap (λ (x : ℕ). m * x) (pow-add 2 (l - suc k) (suc k))
+          ∙ sym (mul-assoc m (2 ^ (l - suc k)) (2 ^ suc k)),
+    )
 
 pub held : (f : Format) (s : Bool) (m : ℕ) (e : ℤ) → T (fits f (fin s m e)) → Held f m e (unitsOf f m e)
 held f s m e t =

@@ -25,7 +25,8 @@ module _ (f : Format) (n : ℕ) (small : n < 2 ^ (low f + suc (emax f))) where
   pub is-root : Root (n * 2 ^ low f) whole
   is-root =
       let w = low f + suc (emax f) in
-      let a : n * 2 ^ low f < 2 ^ w * 2 ^ w = lt-of-lt-of-le (mul-lt-mul-of-pos-right small (pow-pos (low f))) (mul-le-mul-left (2 ^ w) (pow-mono (let g : low f ≤ low f + suc (emax f) = omega arith in g))) in
+      let a : n * 2 ^ low f < 2 ^ w * 2 ^ w = lt-of-lt-of-le (mul-lt-mul-of-pos-right small (pow-pos (low f)))
+      (mul-le-mul-left (2 ^ w) (pow-mono (let g : low f ≤ low f + suc (emax f) = omega arith in g))) in
       isqrt-is w (n * 2 ^ low f) 0 zero-le (lt-of-lt-of-le a (le-of-eq (ap (λ (k : ℕ). k * k) (sym (zero-add (2 ^ w))))))
 
   module _ (w j r : ℕ) (is : n * 2 ^ low f ≡ w * 4 ^ j) (least : hid f * hid f ≤ w) (most : w < 2 ^ prec f * 2 ^ prec f) (near : NearestWhole w r) where
@@ -33,7 +34,9 @@ module _ (f : Format) (n : ℕ) (small : n < 2 ^ (low f + suc (emax f))) where
     cut-root = cut w j whole (subst (λ (k : ℕ). Root k whole) is is-root)
 
     cut-low : hid f ≤ whole / 2 ^ j
-    cut-low = dite (decLe (hid f) (whole / 2 ^ j)) (λ k. k) (λ k. let g : whole / 2 ^ j + 1 ≤ hid f = omega arith in let w = mul-le-mul g g in absurd (omega (arith, cut-root .high)))
+    cut-low =
+        dite (decLe (hid f) (whole / 2 ^ j)) (λ k. k)
+        (λ k. let g : whole / 2 ^ j + 1 ≤ hid f = omega arith in let w = mul-le-mul g g in absurd (omega (arith, cut-root .high)))
 
     cut-high : whole / 2 ^ j < 2 ^ suc (prec f - 1)
     cut-high = subst (λ (p : ℕ). whole / 2 ^ j < 2 ^ p) (prec-is f) (sq-lt (whole / 2 ^ j) (2 ^ prec f) (lt-of-le-of-lt (cut-root .low) most))
@@ -56,7 +59,8 @@ reorder m e h a b = omega arith
 scaled : (n m up : ℕ) → n * 2 ^ 52 ≡ m * 2 ^ up → n * 2 ^ 1074 ≡ m * 2 ^ (up % 2) * 2 ^ 52 * 4 ^ (up / 2 + 485)
 scaled n m up e =
     let u : up ≡ up % 2 + (up / 2 + up / 2) = omega arith in
-    let p : 2 ^ up ≡ 2 ^ (up % 2) * (2 ^ (up / 2) * 2 ^ (up / 2)) = ap (λ (k : ℕ). 2 ^ k) u ∙ pow-add 2 (up % 2) (up / 2 + up / 2) ∙ ap (λ (k : ℕ). 2 ^ (up % 2) * k) (pow-add 2 (up / 2) (up / 2)) in
+    let p : 2 ^ up ≡ 2 ^ (up % 2) * (2 ^ (up / 2) * 2 ^ (up / 2)) = ap (λ (k : ℕ). 2 ^ k) u ∙ pow-add 2 (up % 2) (up / 2 + up / 2)
+    ∙ ap (λ (k : ℕ). 2 ^ (up % 2) * k) (pow-add 2 (up / 2) (up / 2)) in
     let q : 4 ^ (up / 2 + 485) ≡ 2 ^ (up / 2) * 2 ^ (up / 2) * 2 ^ 970 = pow-add 4 (up / 2) 485 ∙ ap (λ (k : ℕ). k * 2 ^ 970) (four-pow (up / 2)) in
     sym (mul-assoc n (2 ^ 52) (2 ^ 1022)) ∙ ap (λ (k : ℕ). k * 2 ^ 1022) (e ∙ ap (λ (k : ℕ). m * k) p)
     ∙ reorder m (2 ^ (up % 2)) (2 ^ (up / 2)) (2 ^ 52) (2 ^ 970) ∙ ap (λ (k : ℕ). m * 2 ^ (up % 2) * 2 ^ 52 * k) (sym q)
@@ -78,7 +82,8 @@ joined (fin false n e) t m up r v k l h near =
     let j = up / 2 + 485 in
     let c = range (m * 2 ^ (up % 2)) r l h near in
     let is : unitsOf binary64 n e * 2 ^ 52 ≡ m * 2 ^ up =
-    same-units (n * lib.Ieee.up e) (down e) (unitsOf binary64 n e) (m * 2 ^ up) (2 ^ 1074) (2 ^ 52) (down-pos e) (a .value) (subst (λ (z : ℕ). n * lib.Ieee.up e * z ≡ m * 2 ^ up * down e) (pow-add 2 1074 52) (v .1)) in
+    same-units (n * lib.Ieee.up e) (down e) (unitsOf binary64 n e) (m * 2 ^ up) (2 ^ 1074) (2 ^ 52) (down-pos e) (a .value)
+    (subst (λ (z : ℕ). n * lib.Ieee.up e * z ≡ m * 2 ^ up * down e) (pow-add 2 1074 52) (v .1)) in
     let fine : r * 2 ^ j < 2 ^ 2098 =
     lt-of-lt-of-le (mul-lt-mul-of-pos-right (let w : r < 2 ^ 54 = omega (arith, c .1) in w) (pow-pos j))
     (le-trans (le-of-eq (sym (pow-add 2 54 j))) (pow-mono (let w : 54 + j ≤ 2098 = omega arith in w))) in

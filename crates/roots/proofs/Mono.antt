@@ -54,7 +54,8 @@ le-cross : (m : ℕ) (e : ℤ) (n : ℕ) (d : ℤ) → T (le (fin false m e) (fi
 unfolding le lt eq
 le-cross m e n d h = go (ltb (m * up e * down d) (n * up d * down e)) (eqb (m * up e * down d) (n * up d * down e)) (ltb→lt _ _) (eqb→eq _ _) h
   where
-    go : (p q : Bool) → (T p → m * up e * down d < n * up d * down e) → (T q → m * up e * down d ≡ n * up d * down e) → T (p || (q && true)) → m * up e * down d ≤ n * up d * down e
+    go : (p q : Bool) → (T p → m * up e * down d < n * up d * down e) → (T q → m * up e * down d ≡ n * up d * down e) → T (p || (q && true))
+        → m * up e * down d ≤ n * up d * down e
     go true q x y t = le-of-lt (x tt)
     go false true x y t = le-of-eq (y tt)
     go false false x y t = absurd t
@@ -99,7 +100,8 @@ module _ (f : Format) (m : ℕ) (e : ℤ) (n : ℕ) (d : ℤ) (t : T (fits f (fi
   plain-mono : T (le (rootIn f (fin false m e)) (rootIn f (fin false n d)))
   plain-mono =
       rw (a .is, b .is)
-      (le-of-values (fin false (a .n) (a .d)) (fin false (b .n) (b .d)) (a .n * up (a .d)) (down (a .d)) (b .n * up (b .d)) (down (b .d)) (down-pos (a .d)) (down-pos (b .d)) (refl, refl) (refl, refl) ordered)
+      (le-of-values (fin false (a .n) (a .d)) (fin false (b .n) (b .d)) (a .n * up (a .d)) (down (a .d)) (b .n * up (b .d)) (down (b .d))
+      (down-pos (a .d)) (down-pos (b .d)) (refl, refl) (refl, refl) ordered)
 
 -- ---- every case
 
@@ -119,5 +121,6 @@ by-case f (plain m e) minus-zero t u l =
     rw (z, i, zero-root f false, zero-root f true) tt
 by-case f (plain m e) (plain n d) t u l = plain-mono f m e n d t u l
 
-pub root-mono : (f : Format) (x y : Float) → T (fits f x) → T (fits f y) → T (le (fin false 0 (pos 0)) x) → T (le (fin false 0 (pos 0)) y) → T (le x y) → T (le (rootIn f x) (rootIn f y))
+pub root-mono : (f : Format) (x y : Float) → T (fits f x) → T (fits f y) → T (le (fin false 0 (pos 0)) x) → T (le (fin false 0 (pos 0)) y)
+    → T (le x y) → T (le (rootIn f x) (rootIn f y))
 root-mono f x y t u p q l = by-case f (not-below f x t p) (not-below f y u q) t u l

@@ -44,11 +44,15 @@ odd-part : (m a o b : ℕ) → o % 2 ≡ 1 → m * 2 ^ a ≡ o * 2 ^ b → o ≤
 odd-part m a o b h e =
     dite (decLe a b)
     (λ g. let w : 2 ^ b ≡ 2 ^ (b - a) * 2 ^ a = ap (λ (x : ℕ). 2 ^ x) (let w : b ≡ b - a + a = omega arith in w) ∙ pow-add 2 (b - a) a in
-    let i : m ≡ o * 2 ^ (b - a) = eq-of-mul-eq-mul-right (2 ^ a) (pow-pos a) m (o * 2 ^ (b - a)) (e ∙ ap (λ (x : ℕ). o * x) w ∙ sym (mul-assoc o (2 ^ (b - a)) (2 ^ a))) in
+    let i : m
+    ≡ o * 2 ^ (b - a) = eq-of-mul-eq-mul-right (2 ^ a) (pow-pos a) m (o * 2 ^ (b - a))
+    (e ∙ ap (λ (x : ℕ). o * x) w ∙ sym (mul-assoc o (2 ^ (b - a)) (2 ^ a))) in
     le-trans (le-of-eq (sym (mul-one o))) (le-trans (mul-le-mul-left o (pow-pos (b - a))) (le-of-eq (sym i))))
     (λ g. let w : 2 ^ a ≡ 2 ^ (a - b - 1) * 2 * 2 ^ b =
     ap (λ (x : ℕ). 2 ^ x) (let w : a ≡ a - b - 1 + 1 + b = omega arith in w) ∙ pow-add 2 (a - b - 1 + 1) b ∙ ap (λ (x : ℕ). x * 2 ^ b) (pow-add 2 (a - b - 1) 1) in
-    let i : m * (2 ^ (a - b - 1) * 2) ≡ o = eq-of-mul-eq-mul-right (2 ^ b) (pow-pos b) (m * (2 ^ (a - b - 1) * 2)) o (mul-assoc m (2 ^ (a - b - 1) * 2) (2 ^ b) ∙ ap (λ (x : ℕ). m * x) (sym w) ∙ e) in
+    let i : m * (2 ^ (a - b - 1) * 2)
+    ≡ o = eq-of-mul-eq-mul-right (2 ^ b) (pow-pos b) (m * (2 ^ (a - b - 1) * 2)) o
+    (mul-assoc m (2 ^ (a - b - 1) * 2) (2 ^ b) ∙ ap (λ (x : ℕ). m * x) (sym w) ∙ e) in
     absurd (omega arith))
 
 -- no tie: four times N is no square of an odd number, times 4^k
@@ -172,7 +176,8 @@ module _ (f : Format) (m : ℕ) (e : ℤ) (t : T (fits f (fin false m e))) where
   full h =
       let a : 2 ^ (prec f - 1 + k) ≤ s = size-reaches s (prec f - 1 + k) (let w = two f in omega arith) in
       let b : 2 ^ (prec f - 1) ≤ q = le-div-iff-mul-le (pow-pos k) .1 (le-trans (le-of-eq (sym (pow-add 2 (prec f - 1) k))) a) in
-      let c : 2 ^ prec f ≡ 2 ^ (prec f - 1) * 2 = ap (λ (x : ℕ). 2 ^ x) (let w = two f in let i : prec f ≡ prec f - 1 + 1 = omega arith in i) ∙ pow-add 2 (prec f - 1) 1 in
+      let c : 2 ^ prec f ≡ 2 ^ (prec f - 1) * 2 = ap (λ (x : ℕ). 2 ^ x) (let w = two f in let i : prec f ≡ prec f - 1 + 1 = omega arith in i)
+      ∙ pow-add 2 (prec f - 1) 1 in
       omega arith
 
   q-low : q * 2 ^ k ≤ s
@@ -185,7 +190,8 @@ module _ (f : Format) (m : ℕ) (e : ℤ) (t : T (fits f (fin false m e))) where
   between =
       chosen (prec f) N q k full (le-trans (mul-le-mul q-low q-low) (s-root .low)) (lt-of-lt-of-le (s-root .high) (mul-le-mul q-high q-high))
       m (in-units .zeros + low f) (in-units .few)
-      (ap (λ (x : ℕ). x * 2 ^ low f) (in-units .form) ∙ mul-assoc m (2 ^ (in-units .zeros)) (2 ^ low f) ∙ ap (λ (x : ℕ). m * x) (sym (pow-add 2 (in-units .zeros) (low f))))
+      (ap (λ (x : ℕ). x * 2 ^ low f) (in-units .form) ∙ mul-assoc m (2 ^ (in-units .zeros)) (2 ^ low f)
+      ∙ ap (λ (x : ℕ). m * x) (sym (pow-add 2 (in-units .zeros) (low f))))
 
   -- the root is far below the largest value
   s-small : s < 2 ^ (low f + emax f)
@@ -193,7 +199,8 @@ module _ (f : Format) (m : ℕ) (e : ℤ) (t : T (fits f (fin false m e))) where
       let w = low f + emax f in
       let a : N < 2 ^ (low f + suc (emax f)) * 2 ^ low f = mul-lt-mul-of-pos-right (in-units .small) (pow-pos (low f)) in
       let b : 2 ^ (low f + suc (emax f) + low f) ≤ 2 ^ (w + w) = pow-mono (let x = two f in let y = reach f in omega arith) in
-      sq-lt s (2 ^ w) (lt-of-le-of-lt (s-root .low) (lt-of-lt-of-le a (le-trans (le-of-eq (sym (pow-add 2 (low f + suc (emax f)) (low f)))) (le-trans b (le-of-eq (pow-add 2 w w))))))
+      sq-lt s (2 ^ w) (lt-of-le-of-lt (s-root .low)
+      (lt-of-lt-of-le a (le-trans (le-of-eq (sym (pow-add 2 (low f + suc (emax f)) (low f)))) (le-trans b (le-of-eq (pow-add 2 w w))))))
 
   r-le : r ≤ q + 1
   r-le = le-trans (nearest-le q (compare (4 * N) ((2 * q + 1) * (2 * q + 1) * 4 ^ k))) (omega arith)
@@ -223,12 +230,14 @@ module _ (f : Format) (m : ℕ) (e : ℤ) (t : T (fits f (fin false m e))) where
       above = λ a c i l.
           let z = held f false a c i in
           let g = order-units (o * up d) (down d) (a * up c) (down c) (2 ^ low f) (r * 2 ^ k) (unitsOf f a c) (pow-pos (low f)) (v .1) (z .value) l in
-          below-half (m * up e) (down e) (o * up d) (down d) (a * up c) (down c) (2 ^ low f) n (r * 2 ^ k) (unitsOf f a c) (down-pos e) (down-pos d) (down-pos c) (in-units .value) (v .1) (z .value)
+          below-half (m * up e) (down e) (o * up d) (down d) (a * up c) (down c) (2 ^ low f) n (r * 2 ^ k) (unitsOf f a c) (down-pos e) (down-pos d)
+          (down-pos c) (in-units .value) (v .1) (z .value)
           (subst (λ (x : ℕ). 4 * N < (r * 2 ^ k + x) * (r * 2 ^ k + x)) (sym (z .form)) (between .above a (z .zeros) (z .few) (subst (λ (x : ℕ). r * 2 ^ k < x) (z .form) g)));
       below = λ a c i l.
           let z = held f false a c i in
           let g = order-units (a * up c) (down c) (o * up d) (down d) (2 ^ low f) (unitsOf f a c) (r * 2 ^ k) (pow-pos (low f)) (z .value) (v .1) l in
-          above-half (m * up e) (down e) (o * up d) (down d) (a * up c) (down c) (2 ^ low f) n (r * 2 ^ k) (unitsOf f a c) (down-pos e) (down-pos d) (down-pos c) (in-units .value) (v .1) (z .value)
+          above-half (m * up e) (down e) (o * up d) (down d) (a * up c) (down c) (2 ^ low f) n (r * 2 ^ k) (unitsOf f a c) (down-pos e) (down-pos d)
+          (down-pos c) (in-units .value) (v .1) (z .value)
           (subst (λ (x : ℕ). (r * 2 ^ k + x) * (r * 2 ^ k + x) < 4 * N) (sym (z .form)) (between .below a (z .zeros) (z .few) (subst (λ (x : ℕ). x < r * 2 ^ k) (z .form) g)));
     };
   }

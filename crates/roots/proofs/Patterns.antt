@@ -98,9 +98,11 @@ times t (fin i m e) s a c h = (h .0, sym (mul-assoc (m * up e) c t) ∙ ap (λ (
 in-small-units : (b a : ℕ) → b < 0x7ff0_0000_0000_0000 → patternUnits binary64 b * 2 ^ 52 ≡ a → HasValue (ofBits binary64 b) false a (2 ^ 1126)
 in-small-units b a h e =
     subst (λ (n : ℕ). HasValue (ofBits binary64 b) false n (2 ^ 1126)) e
-    (subst (λ (n : ℕ). HasValue (ofBits binary64 b) false (patternUnits binary64 b * 2 ^ 52) n) (sym (pow-add 2 1074 52)) (times (2 ^ 52) (ofBits binary64 b) false (patternUnits binary64 b) (2 ^ 1074) (pattern-value binary64 b h)))
+    (subst (λ (n : ℕ). HasValue (ofBits binary64 b) false (patternUnits binary64 b * 2 ^ 52) n) (sym (pow-add 2 1074 52))
+    (times (2 ^ 52) (ofBits binary64 b) false (patternUnits binary64 b) (2 ^ 1074) (pattern-value binary64 b h)))
 
-pub normal-value : (b : ℕ) → b < 0x7ff0_0000_0000_0000 → (b / 2 ^ 52 ≡ 0 → ⊥) → HasValue (ofBits binary64 b) false ((b % 2 ^ 52 + 2 ^ 52) * 2 ^ (b / 2 ^ 52 + 51)) (2 ^ 1126)
+pub normal-value : (b : ℕ) → b < 0x7ff0_0000_0000_0000 → (b / 2 ^ 52 ≡ 0 → ⊥)
+    → HasValue (ofBits binary64 b) false ((b % 2 ^ 52 + 2 ^ 52) * 2 ^ (b / 2 ^ 52 + 51)) (2 ^ 1126)
 normal-value b k h = in-small-units b ((b % 2 ^ 52 + 2 ^ 52) * 2 ^ (b / 2 ^ 52 + 51)) k is
   where
     is : patternUnits binary64 b * 2 ^ 52 ≡ (b % 2 ^ 52 + 2 ^ 52) * 2 ^ (b / 2 ^ 52 + 51)

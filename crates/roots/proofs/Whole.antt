@@ -23,13 +23,16 @@ pub record Root (n r : ℕ) : Type 0 where
 pub isqrt-is : (k n r : ℕ) → r * r ≤ n → n < (r + 2 ^ k) * (r + 2 ^ k) → Root n (isqrt k n r)
 unfolding isqrt
 isqrt-is zero n r l h = record { low = l; high = h }
-isqrt-is (suc k) n r l h = go (leb ((r + 2 ^ k) * (r + 2 ^ k)) n) (leb-true _ _) (leb-false _ _) (λ t. isqrt-is k n (r + 2 ^ k) t (rw (twice r k) at h)) (λ t. isqrt-is k n r l t)
+isqrt-is (suc k) n r l h =
+    go (leb ((r + 2 ^ k) * (r + 2 ^ k)) n) (leb-true _ _) (leb-false _ _) (λ t. isqrt-is k n (r + 2 ^ k) t (rw (twice r k) at h))
+    (λ t. isqrt-is k n r l t)
   where
     twice : (r k : ℕ) → r + 2 ^ suc k ≡ r + 2 ^ k + 2 ^ k
     twice r k = rw (pow-succ' 2 k) (omega arith)
 
     go : (b : Bool) → (b ≡ true → (r + 2 ^ k) * (r + 2 ^ k) ≤ n) → (b ≡ false → n < (r + 2 ^ k) * (r + 2 ^ k))
-        → ((r + 2 ^ k) * (r + 2 ^ k) ≤ n → Root n (isqrt k n (r + 2 ^ k))) → (n < (r + 2 ^ k) * (r + 2 ^ k) → Root n (isqrt k n r)) → Root n (isqrt k n (cond b (r + 2 ^ k) r))
+        → ((r + 2 ^ k) * (r + 2 ^ k) ≤ n → Root n (isqrt k n (r + 2 ^ k))) → (n < (r + 2 ^ k) * (r + 2 ^ k) → Root n (isqrt k n r))
+        → Root n (isqrt k n (cond b (r + 2 ^ k) r))
     go true t f y z = y (t refl)
     go false t f y z = z (f refl)
 
@@ -68,9 +71,12 @@ cut n j s r =
 pub places : (p j s : ℕ) → 2 ^ p ≤ s / 2 ^ j → s / 2 ^ j < 2 ^ suc p → size s ≡ suc p + j
 places p j s l h =
     let low : 2 ^ (p + j) ≤ s = le-trans (le-of-eq (pow-add 2 p j)) (le-trans (mul-le-mul-right (2 ^ j) l) (div-mul-le-self s (2 ^ j))) in
-    let high : s < 2 ^ (suc p + j) = lt-of-lt-of-le (lt-div-mul-add {a = s} (pow-pos j)) (le-trans (let g : s / 2 ^ j * 2 ^ j + 2 ^ j ≤ 2 ^ suc p * 2 ^ j = (let w = mul-le-mul-right (2 ^ j) h in omega arith) in g) (le-of-eq (sym (pow-add 2 (suc p) j)))) in
+    let high : s < 2 ^ (suc p + j) = lt-of-lt-of-le (lt-div-mul-add {a = s} (pow-pos j))
+    (le-trans (let g : s / 2 ^ j * 2 ^ j + 2 ^ j ≤ 2 ^ suc p * 2 ^ j = (let w = mul-le-mul-right (2 ^ j) h in omega arith) in g)
+    (le-of-eq (sym (pow-add 2 (suc p) j)))) in
     le-antisymm (size-le s (suc p + j) high)
-    (dite (decLe (suc p + j) (size s)) (λ k. k) (λ k. let g : 2 ^ size s ≤ 2 ^ (p + j) = pow-mono (let w : size s ≤ p + j = omega arith in w) in let f = size-lt s in absurd (omega arith)))
+    (dite (decLe (suc p + j) (size s)) (λ k. k)
+    (λ k. let g : 2 ^ size s ≤ 2 ^ (p + j) = pow-mono (let w : size s ≤ p + j = omega arith in w) in let f = size-lt s in absurd (omega arith)))
 
 -- ---- the whole number nearest to a root
 

@@ -72,16 +72,20 @@ module _ (x : State) (u : Memory) (k d : ℕ) (a b : Aabb) (ea : a ≡ boxOf (bl
       rw (t, z) refl
 
   -- ---- halved
-  memory-split : (n1 n2 rg : List Float) (dp : List ℕ) → length (block (4 * x .width1) k (u .nets1)) ≡ 4 * x .width1 → length (block (4 * x .width2) k (u .nets2)) ≡ 4 * x .width2
+  memory-split : (n1 n2 rg : List Float) (dp : List ℕ) → length (block (4 * x .width1) k (u .nets1)) ≡ 4 * x .width1
+      → length (block (4 * x .width2) k (u .nets2)) ≡ 4 * x .width2
       → n1 ≡ slotsAfter (not (secondHalved a b)) (x .width1) k (u .nets1) → n2 ≡ slotsAfter (secondHalved a b) (x .width2) k (u .nets2)
       → rg ≡ rangesAfter (secondHalved a b) k (u .ranges) → dp ≡ depthsAfter d k (u .depths)
       → memory n1 n2 rg dp (u .raw) ≡ splitMemory geometry k x u (part1 x u k) (part2 x u k) (suc d)
   memory-split n1 n2 rg dp l1 l2 e1 e2 e3 e4 =
-      let s : secondHalved a b ≡ secondHalved (boxOf (block (4 * x .width1) k (u .nets1))) (boxOf (block (4 * x .width2) k (u .nets2))) = (λ i. secondHalved (ea i) (eb i)) in
+      let s : secondHalved a b
+      ≡ secondHalved (boxOf (block (4 * x .width1) k (u .nets1))) (boxOf (block (4 * x .width2) k (u .nets2))) = (λ i. secondHalved (ea i) (eb i))
+      in
       let t = secondHalved (boxOf (block (4 * x .width1) k (u .nets1))) (boxOf (block (4 * x .width2) k (u .nets2))) in
       let f1 = e1 ∙ (λ i. slotsAfter (not (s i)) (x .width1) k (u .nets1)) ∙ slots-are (not t) (x .width1) k (u .nets1) (part1 x u k) refl l1 in
       let f2 = e2 ∙ (λ i. slotsAfter (s i) (x .width2) k (u .nets2)) ∙ slots-are t (x .width2) k (u .nets2) (part2 x u k) refl l2 in
-      let f3 = e3 ∙ (λ i. rangesAfter (s i) k (u .ranges)) ∙ ap (patch (u .ranges) (k * 4)) (ranges-split t k (block 4 k (u .ranges)) (part1 x u k .net) (part2 x u k .net)) in
+      let f3 = e3 ∙ (λ i. rangesAfter (s i) k (u .ranges))
+      ∙ ap (patch (u .ranges) (k * 4)) (ranges-split t k (block 4 k (u .ranges)) (part1 x u k .net) (part2 x u k .net)) in
       λ i. memory (f1 i) (f2 i) (f3 i) (e4 i) (u .raw)
 
   spend : (n : ℕ) (m : Memory) → 1 ≤ n → m ≡ splitMemory geometry k x u (part1 x u k) (part2 x u k) (suc d)

@@ -34,4 +34,6 @@ module _ (G : Geometry) (x : State) (u : Memory) where
       → v ≡ G .clearing (x .gap) (block (4 * x .width1) k (u .nets1)) (block (4 * x .width2) k (u .nets2)) → r ≡ stepDef G x u v → r ≡ ownStepDef G x u
   own-step-accepted r v k d A h f =
       let at : k ≡ x .waiting - 1 = (let t = A .top in omega arith) in
-      f ∙ ap (carriedOut G x u) (own-judged G x u v (A .runs) (enough-own (needed x) (sizes u) (A .lent)) (accepted-is x u k d A) (h ∙ ap (λ (j : ℕ). G .clearing (x .gap) (block (4 * x .width1) j (u .nets1)) (block (4 * x .width2) j (u .nets2))) at))
+      f
+      ∙ ap (carriedOut G x u) (own-judged G x u v (A .runs) (enough-own (needed x) (sizes u) (A .lent)) (accepted-is x u k d A)
+      (h ∙ ap (λ (j : ℕ). G .clearing (x .gap) (block (4 * x .width1) j (u .nets1)) (block (4 * x .width2) j (u .nets2))) at))

@@ -41,17 +41,20 @@ module _ (x : State) (u : Memory) (b : Bool) (k d : ℕ) (h : b ≡ enoughOwn (n
   judged-slots =
       let t = top-node x b (u .depths) k d e in
       let r = room-own x (sizes u) (sym h ∙ t .1) in
-      let slot : (n len : ℕ) → (x .pairs + 64) * n ≤ len → (k + 1) * n ≤ len = λ n len f. subst (λ (j : ℕ). (j + 1) * n ≤ len) (sym (t .3)) (top-slot x _ n len (t .0) (t .2) f) in
+      let slot : (n len : ℕ) → (x .pairs + 64) * n ≤ len
+      → (k + 1) * n ≤ len = λ n len f. subst (λ (j : ℕ). (j + 1) * n ≤ len) (sym (t .3)) (top-slot x _ n len (t .0) (t .2) f) in
       (slot (4 * x .width1) (length (u .nets1)) (r .nets1), slot (4 * x .width2) (length (u .nets2)) (r .nets2))
 
   pub judged : (G : Geometry) (v : Verdict) → v ≡ G .clearing (x .gap) (block (4 * x .width1) k (u .nets1)) (block (4 * x .width2) k (u .nets2)) → Is v ≡ ownDef G x u
   judged G v f =
       let t = top-node x b (u .depths) k d e in
-      own-judged G x u v (t .0) (sym h ∙ t .1) (t .2) (f ∙ ap (λ (j : ℕ). G .clearing (x .gap) (block (4 * x .width1) j (u .nets1)) (block (4 * x .width2) j (u .nets2))) (t .3))
+      own-judged G x u v (t .0) (sym h ∙ t .1) (t .2)
+      (f ∙ ap (λ (j : ℕ). G .clearing (x .gap) (block (4 * x .width1) j (u .nets1)) (block (4 * x .width2) j (u .nets2))) (t .3))
 
 -- ---- a step
 -- an accepted step has room; the two bounds are those of the state's 16-bit fields
-pub room : (x : State) (d : ℕ) (s : Sizes) → x .pairs ≤ 65535 → x .quota ≤ 65535 → over x ≡ false → enough (needed x) s ≡ true → searchWith x d ≡ true → Room x (x .waiting - 1) d s
+pub room : (x : State) (d : ℕ) (s : Sizes) → x .pairs ≤ 65535 → x .quota ≤ 65535 → over x ≡ false → enough (needed x) s ≡ true → searchWith x d ≡ true
+    → Room x (x .waiting - 1) d s
 room x d s hp hq o e f =
     let w = waits x o in
     let S = sound x d w f in
@@ -125,5 +128,8 @@ module _ (G : Geometry) (x : State) (u : Memory) (v : Verdict) where
       let t = top-refused x b (u .depths) e in
       rw (t .0, ap (λ (a : Bool). a && isSearch x u) (sym h) ∙ t .1) refl
 
-  pub step-accepted : (y : State) (m : Memory) (k d : ℕ) → Accepted x u k d → {z : State} → y ≡ z → stepping (Next z) m ≡ actOn G (suc k) v x u → stepping (Next y) m ≡ stepDef G x u v
-  step-accepted y m k d A e h = ap (λ (z : State). stepping (Next z) m) e ∙ h ∙ ap (λ (n : ℕ). actOn G n v x u) (sym (A .top)) ∙ rw (A .runs, A .lent, accepted-is x u k d A) refl
+  pub step-accepted : (y : State) (m : Memory) (k d : ℕ) → Accepted x u k d → {z : State} → y ≡ z → stepping (Next z) m ≡ actOn G (suc k) v x u
+      → stepping (Next y) m ≡ stepDef G x u v
+  step-accepted y m k d A e h =
+      ap (λ (z : State). stepping (Next z) m) e ∙ h ∙ ap (λ (n : ℕ). actOn G n v x u) (sym (A .top))
+      ∙ rw (A .runs, A .lent, accepted-is x u k d A) refl

@@ -70,7 +70,9 @@ module _ (x : State) (u : Memory) (list : List Float) {a : Reported} {u' : Memor
 
   pub report-prints : (out : List ℕ) (b : Reported) {o : List ℕ} {r : ℕ} → a ≡ b → Wrote out 0 (reportedText b list') o r → Wrote out 0 (reportText x u list) o r
   unfolding reportText
-  report-prints out b f h = moved out (reportedText b list') (reportText x u list) (ap (λ (d : Reported). reportedText d list') (sym f) ∙ ap (λ (o : Reporting). reportedText (o .answer) (o .slice)) e) h
+  report-prints out b f h =
+      moved out (reportedText b list') (reportText x u list)
+      (ap (λ (d : Reported). reportedText d list') (sym f) ∙ ap (λ (o : Reporting). reportedText (o .answer) (o .slice)) e) h
 
   pub told-prints : (out : List ℕ) {w : Word} {c : Counts} {n : ℕ} {o1 o2 : List ℕ} {r1 r2 : ℕ} → a ≡ Told w c n
       → Wrote out 0 (countLine w c n) o1 r1 → Wrote o1 r1 (regionLines n list') o2 r2 → r2 ≤ length out → Wrote out 0 (reportText x u list) o2 r2
@@ -81,7 +83,8 @@ pub search-prints : (x : State) (u : Memory) (list : List Float) {a : Stepped} {
     → (out : List ℕ) (b : Stepped) {o : List ℕ} {r : ℕ} → a ≡ b → Wrote out 0 (steppedText b u' list) o r → Wrote out 0 (searchText x u list) o r
 unfolding searchText
 search-prints x u list {a} {u'} e out b f h =
-    moved out (steppedText b u' list) (searchText x u list) (ap (λ (d : Stepped). steppedText d u' list) (sym f) ∙ ap (λ (o : Stepping). steppedText (o .answer) (o .memory) list) e) h
+    moved out (steppedText b u' list) (searchText x u list)
+    (ap (λ (d : Stepped). steppedText d u' list) (sym f) ∙ ap (λ (o : Stepping). steppedText (o .answer) (o .memory) list) e) h
 
 -- ---- the opening, on memory that is zeros
 pub lines-print : (q : Question) {p1 p2 nets1 nets2 ranges raw list : List Float} {depths : List ℕ}

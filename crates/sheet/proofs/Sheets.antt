@@ -30,13 +30,20 @@ front room vs k e = take-at vs (drop (0 + length vs) room) k e
 pub line-read : (s : List ℕ) (l : Line) (knots coords weights : List Float) (mults : List ℕ) {knots' coords' weights' : List Float} {mults' : List ℕ}
     → knots' ≡ patch knots 0 (floatsFrom s (l .knots .at) (l .knots .count)) → mults' ≡ patch mults 0 (wordsFrom s (l .mults .at) (l .mults .count))
     → coords' ≡ patch coords 0 (floatsFrom s (l .poles .at) (3 * l .poles .count)) → weights' ≡ patch weights 0 (floatsFrom s (l .weights .at) (l .weights .count))
-    → lineOf (l .degree) (take (l .knots .count) knots') (take (l .mults .count) mults') (take (3 * l .poles .count) coords') (take (l .weights .count) weights') ≡ lineIn (walkedLine s l)
+    → lineOf (l .degree) (take (l .knots .count) knots') (take (l .mults .count) mults') (take (3 * l .poles .count) coords')
+    (take (l .weights .count) weights') ≡ lineIn (walkedLine s l)
 unfolding walkedLine
 line-read s l knots coords weights mults {knots'} {coords'} {weights'} {mults'} e f g h =
-    let a : take (l .knots .count) knots' ≡ floatsFrom s (l .knots .at) (l .knots .count) = ap (take (l .knots .count)) e ∙ front knots (floatsFrom s (l .knots .at) (l .knots .count)) (l .knots .count) (floats-length s (l .knots .at) (l .knots .count)) in
-    let b : take (l .mults .count) mults' ≡ wordsFrom s (l .mults .at) (l .mults .count) = ap (take (l .mults .count)) f ∙ front mults (wordsFrom s (l .mults .at) (l .mults .count)) (l .mults .count) (words-length s (l .mults .at) (l .mults .count)) in
-    let c : take (3 * l .poles .count) coords' ≡ floatsFrom s (l .poles .at) (3 * l .poles .count) = ap (take (3 * l .poles .count)) g ∙ front coords (floatsFrom s (l .poles .at) (3 * l .poles .count)) (3 * l .poles .count) (floats-length s (l .poles .at) (3 * l .poles .count)) in
-    let d : take (l .weights .count) weights' ≡ floatsFrom s (l .weights .at) (l .weights .count) = ap (take (l .weights .count)) h ∙ front weights (floatsFrom s (l .weights .at) (l .weights .count)) (l .weights .count) (floats-length s (l .weights .at) (l .weights .count)) in
+    let a : take (l .knots .count) knots' ≡ floatsFrom s (l .knots .at) (l .knots .count) = ap (take (l .knots .count)) e
+    ∙ front knots (floatsFrom s (l .knots .at) (l .knots .count)) (l .knots .count) (floats-length s (l .knots .at) (l .knots .count)) in
+    let b : take (l .mults .count) mults' ≡ wordsFrom s (l .mults .at) (l .mults .count) = ap (take (l .mults .count)) f
+    ∙ front mults (wordsFrom s (l .mults .at) (l .mults .count)) (l .mults .count) (words-length s (l .mults .at) (l .mults .count)) in
+    let c : take (3 * l .poles .count) coords' ≡ floatsFrom s (l .poles .at) (3 * l .poles .count) = ap (take (3 * l .poles .count)) g
+    ∙ front coords (floatsFrom s (l .poles .at) (3 * l .poles .count)) (3 * l .poles .count)
+    (floats-length s (l .poles .at) (3 * l .poles .count)) in
+    let d : take (l .weights .count) weights' ≡ floatsFrom s (l .weights .at) (l .weights .count) = ap (take (l .weights .count)) h
+    ∙ front weights (floatsFrom s (l .weights .at) (l .weights .count)) (l .weights .count) (floats-length s (l .weights .at) (l .weights .count))
+    in
     λ i. lineOf (l .degree) (a i) (b i) (c i) (d i)
 
 -- ---- a sheet that is walked is no longer than 16,384 bytes
@@ -69,7 +76,9 @@ pub refused-answer : (s : List ℕ) (r : Sheet) → (r .no ≡ 0 → ⊥) → wa
 unfolding answerOf
 refused-answer s r h e = ap walkedText (sym (e ∙ off (walked (sheetIn s r)) h))
 
-asked-same : (s : List ℕ) (r : Sheet) → linesText (questionOf (askingAt s (r .asked) (r .splits)) (lineIn (walkedLine s (r .first))) (lineIn (walkedLine s (r .second)))) ≡ walkedText (walked (sheetIn s r))
+asked-same : (s : List ℕ) (r : Sheet)
+    → linesText (questionOf (askingAt s (r .asked) (r .splits)) (lineIn (walkedLine s (r .first))) (lineIn (walkedLine s (r .second))))
+    ≡ walkedText (walked (sheetIn s r))
 unfolding askingAt sheetIn
 asked-same s r = refl
 
@@ -88,5 +97,6 @@ from-front out text all e (a, b) = let n = ap length e in (omega arith, b ∙ ap
 pub no-answer : (s out : List ℕ) → length out < 145169 → (0 ≡ answerLength s out) × (out ≡ answerIn s out)
 no-answer s out h = let e = lt-ltb (length out) 145169 h in (rw e refl, rw e refl)
 
-pub some-answer : (s out : List ℕ) {o : List ℕ} {r : ℕ} → 145169 ≤ length out → (r ≡ length (answerOf s)) × (o ≡ patch out 0 (answerOf s)) → (r ≡ answerLength s out) × (o ≡ answerIn s out)
+pub some-answer : (s out : List ℕ) {o : List ℕ} {r : ℕ} → 145169 ≤ length out → (r ≡ length (answerOf s)) × (o ≡ patch out 0 (answerOf s))
+    → (r ≡ answerLength s out) × (o ≡ answerIn s out)
 some-answer s out h (a, b) = let e = le-ltb (length out) 145169 h in (rw e a, rw e b)

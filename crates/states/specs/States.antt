@@ -25,7 +25,21 @@ memory a b r d w = record { nets1 = a; nets2 = b; ranges = r; depths = d; raw = 
 
 -- the state of a fresh search of P pairs: all wait, and S × P may be spent
 abbrev pub firstState : ℕ → ℕ → ℕ → ℕ → Float → State
-firstState P S w1 w2 gap = record { pairs = P; quota = S; waiting = P; visits = 0; splits = 0; unspent = S * P; settled = 0; given = 0; width1 = w1; width2 = w2; gap = gap; stopped = false }
+firstState P S w1 w2 gap =
+    record {
+      pairs = P;
+      quota = S;
+      waiting = P;
+      visits = 0;
+      splits = 0;
+      unspent = S * P;
+      settled = 0;
+      given = 0;
+      width1 = w1;
+      width2 = w2;
+      gap = gap;
+      stopped = false;
+    }
 
 -- five lengths: of a memory's slices, of what is lent of them, of what is needed
 pub record Sizes : Type 0 where
@@ -90,7 +104,16 @@ over x = x .stopped || isZero (x .waiting)
 
 -- the result; left is the nodes waiting at the end
 abbrev pub countsOf : State → Counts
-countsOf x = record { pairs = x .pairs; visits = x .visits; splits = x .splits; settled = x .settled; given = x .given; left = cond (over x) (x .waiting) 0; unspent = x .unspent }
+countsOf x =
+    record {
+      pairs = x .pairs;
+      visits = x .visits;
+      splits = x .splits;
+      settled = x .settled;
+      given = x .given;
+      left = cond (over x) (x .waiting) 0;
+      unspent = x .unspent;
+    }
 
 -- ---- what a call finds on top
 abbrev pub topNumber : Top → ℕ

@@ -18,7 +18,8 @@ use Rattle.lists.proofs.Parts.{patch-twice}
 use Rattle.texts.specs.Texts.{hexDigit, digitsOf, placesIn, decimalOf, hexOf, bitsOf, floatText}
 
 -- ---- a text copied in, byte by byte
-pub copy-turn : {s : List ℕ} (out : List ℕ) (at : ℕ) (text : List ℕ) (i : ℕ) → s ≡ paste out at text i → at + i < length out → i < length text → set s (at + i) (getD text i 0) ≡ paste out at text (i + 1)
+pub copy-turn : {s : List ℕ} (out : List ℕ) (at : ℕ) (text : List ℕ) (i : ℕ) → s ≡ paste out at text i → at + i < length out → i < length text
+    → set s (at + i) (getD text i 0) ≡ paste out at text (i + 1)
 copy-turn out at text i e h k = rw (e, add-one) (paste-suc out at text i 0 h k)
 
 pub copied : (out : List ℕ) (at : ℕ) (text : List ℕ) (i : ℕ) {s : List ℕ} → i ≡ length text → s ≡ paste out at text i → s ≡ patch out at text
@@ -117,7 +118,8 @@ pub decimal-is : (out : List ℕ) (at k n : ℕ) {r : List ℕ} → k ≡ places
 unfolding decimalOf
 decimal-is out at k n e h = rw e at h
 
-pub float-is : (out : List ℕ) (at n : ℕ) (x : Float) {r : List ℕ} → at + 17 ≤ length out → n ≡ bitsOf x → r ≡ patch (set out at 32) (at + 1) (digitsOf 16 16 n) → r ≡ patch out at (floatText x)
+pub float-is : (out : List ℕ) (at n : ℕ) (x : Float) {r : List ℕ} → at + 17 ≤ length out → n ≡ bitsOf x
+    → r ≡ patch (set out at 32) (at + 1) (digitsOf 16 16 n) → r ≡ patch out at (floatText x)
 unfolding floatText hexOf
 float-is out at n x h e f =
     let l = digits-length 16 16 n in

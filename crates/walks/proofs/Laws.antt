@@ -50,7 +50,8 @@ read-turn f g w step len out at n i v lt h e =
     ∙ patch-twice out i (i + 1) (v ∷ []) (f (at + w * (i + 1)) (n - (i + 1))) refl (omega arith)
     ∙ rw (p, k, step (at + w * i) (n - (i + 1)), ← e) refl
 
-pub read-done : {A : Type 0} (f : ℕ → ℕ → List A) (w : ℕ) → ((a : ℕ) → f a 0 ≡ []) → (out : List A) (at n i : ℕ) {r : List A} → n ≤ i → patch out i (f (at + w * i) (n - i)) ≡ r → out ≡ r
+pub read-done : {A : Type 0} (f : ℕ → ℕ → List A) (w : ℕ) → ((a : ℕ) → f a 0 ≡ []) → (out : List A) (at n i : ℕ) {r : List A} → n ≤ i
+    → patch out i (f (at + w * i) (n - i)) ≡ r → out ≡ r
 read-done f w end out at n i h e =
     let z : n - i ≡ 0 = omega arith in
     sym (take-append-drop i out) ∙ (rw (z, end (at + w * i), add-zero) at e)

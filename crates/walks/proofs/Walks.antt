@@ -41,7 +41,9 @@ module _ (s : List ℕ) (kind at : ℕ) where
       module _ (r : ℕ) (size : r ≡ sizeOf kind (countOf w)) (good : badCount kind (countOf w) ≡ false) where
         pub too-long : length s - (at + 4) < r → (go : ℕ → ℕ → ℕ → Walked) → partOf s kind at go ≡ refusedAs 3
         unfolding partOf
-        too-long l go = rw (← is, ← size) (simp (le-ltb (length s) (at + 4) (omega arith), eq-eqb (kindOf w) kind same, good, lt-ltb (length s) (at + 4 + r) (omega arith)))
+        too-long l go =
+            rw (← is, ← size)
+            (simp (le-ltb (length s) (at + 4) (omega arith), eq-eqb (kindOf w) kind same, good, lt-ltb (length s) (at + 4 + r) (omega arith)))
 
         pub found : r ≤ length s - (at + 4) → (go : ℕ → ℕ → ℕ → Walked) → partOf s kind at go ≡ go (countOf w) (at + 4) (at + 4 + r)
         unfolding partOf
@@ -63,7 +65,8 @@ module _ (s : List ℕ) (at : ℕ) where
 
 -- ---- a part that is refused with m, and one that is not
 module _ (s : List ℕ) (n : ℕ) (walk : (ℕ → ℕ → ℕ → Walked) → Walked) (size : ℕ → ℕ) (p : Part) where
-  refused-with : (m : ℕ) → (p .no ≡ m) × (p .count ≡ 0) × (p .next ≡ 0) → (m ≡ 0 → ⊥) → ((go : ℕ → ℕ → ℕ → Walked) → unless n (walk go) ≡ refusedAs m) → PartFits s n walk size p
+  refused-with : (m : ℕ) → (p .no ≡ m) × (p .count ≡ 0) × (p .next ≡ 0) → (m ≡ 0 → ⊥) → ((go : ℕ → ℕ → ℕ → Walked) → unless n (walk go) ≡ refusedAs m)
+      → PartFits s n walk size p
   refused-with m e h f = record {
     says = λ go. f go ∙ rw (e .0) (sym (off (go (p .count) (p .at) (p .next)) h));
     before = omega arith;
@@ -74,10 +77,12 @@ module _ (s : List ℕ) (n : ℕ) (walk : (ℕ → ℕ → ℕ → Walked) → W
   pub before-refused : (p .no ≡ n) × (p .count ≡ 0) × (p .next ≡ 0) → (n ≡ 0 → ⊥) → PartFits s n walk size p
   before-refused e h = refused-with n e h (λ go. off (walk go) h)
 
-  pub here-refused : (m : ℕ) → (p .no ≡ m) × (p .count ≡ 0) × (p .next ≡ 0) → (m ≡ 0 → ⊥) → n ≡ 0 → ((go : ℕ → ℕ → ℕ → Walked) → walk go ≡ refusedAs m) → PartFits s n walk size p
+  pub here-refused : (m : ℕ) → (p .no ≡ m) × (p .count ≡ 0) × (p .next ≡ 0) → (m ≡ 0 → ⊥) → n ≡ 0
+      → ((go : ℕ → ℕ → ℕ → Walked) → walk go ≡ refusedAs m) → PartFits s n walk size p
   here-refused m e h z f = refused-with m e h (λ go. on (walk go) z ∙ f go)
 
-pub taken : (s : List ℕ) (n : ℕ) (walk : (ℕ → ℕ → ℕ → Walked) → Walked) (size : ℕ → ℕ) (count at next : ℕ) → n ≡ 0 → ((go : ℕ → ℕ → ℕ → Walked) → walk go ≡ go count at next)
+pub taken : (s : List ℕ) (n : ℕ) (walk : (ℕ → ℕ → ℕ → Walked) → Walked) (size : ℕ → ℕ) (count at next : ℕ) → n ≡ 0
+    → ((go : ℕ → ℕ → ℕ → Walked) → walk go ≡ go count at next)
     → next ≤ length s → count < 268435456 → at + size count ≤ length s → PartFits s n walk size (record { no = 0; count = count; at = at; next = next })
 unfolding unless
 taken s n walk size count at next z f b l i = record { says = λ go. on (walk go) z ∙ f go; before = b; few = l; fits = λ e. (z, i) }
@@ -89,7 +94,8 @@ taken-over s n walk there size p z f h = record { says = λ go. on (walk go) z �
 
 -- ---- five parts are a line
 pub line-fits : {s : List ℕ} {n at : ℕ} {d k m p w : Part} → PartFits s n (partOf s 1 at) (sizeOf 1) d → PartFits s (d .no) (partOf s 2 (d .next)) (sizeOf 2) k
-    → PartFits s (k .no) (partOf s 3 (k .next)) (sizeOf 3) m → PartFits s (m .no) (partOf s 4 (m .next)) (sizeOf 4) p → PartFits s (p .no) (weightsOf s (p .next)) (sizeOf 5) w
+    → PartFits s (k .no) (partOf s 3 (k .next)) (sizeOf 3) m → PartFits s (m .no) (partOf s 4 (m .next)) (sizeOf 4) p
+    → PartFits s (p .no) (weightsOf s (p .next)) (sizeOf 5) w
     → LineFits s n at (record { no = w .no; degree = d .count; knots = k; mults = m; poles = p; weights = w; next = w .next })
 unfolding lineOf lineIn sizeOf
 line-fits d k m p w = record {

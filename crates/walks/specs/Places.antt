@@ -18,10 +18,27 @@ unless n w = cond (eqb n 0) w (refusedAs n)
 
 -- the line, and the sheet, that stand at these places
 unfoldable pub lineIn : List ℕ → Line → said.Line
-lineIn s l = record { degree = l .degree; knots = floatsFrom s (l .knots .at) (l .knots .count); mults = wordsFrom s (l .mults .at) (l .mults .count); coords = floatsFrom s (l .poles .at) (3 * l .poles .count); weights = floatsFrom s (l .weights .at) (l .weights .count) }
+lineIn s l =
+    record {
+      degree = l .degree;
+      knots = floatsFrom s (l .knots .at) (l .knots .count);
+      mults = wordsFrom s (l .mults .at) (l .mults .count);
+      coords = floatsFrom s (l .poles .at) (3 * l .poles .count);
+      weights = floatsFrom s (l .weights .at) (l .weights .count);
+    }
 
 unfoldable pub sheetIn : List ℕ → Sheet → said.Sheet
-sheetIn s r = record { first = lineIn s (r .first); second = lineIn s (r .second); splits = r .splits; lo1 = floatAt s (r .asked); hi1 = floatAt s (r .asked + 8); lo2 = floatAt s (r .asked + 16); hi2 = floatAt s (r .asked + 24); gap = floatAt s (r .asked + 32) }
+sheetIn s r =
+    record {
+      first = lineIn s (r .first);
+      second = lineIn s (r .second);
+      splits = r .splits;
+      lo1 = floatAt s (r .asked);
+      hi1 = floatAt s (r .asked + 8);
+      lo2 = floatAt s (r .asked + 16);
+      hi2 = floatAt s (r .asked + 24);
+      gap = floatAt s (r .asked + 32);
+    }
 
 -- each part lies inside n bytes, so that it can be read
 pub record LineInside (n : ℕ) (l : Line) : Type 0 where

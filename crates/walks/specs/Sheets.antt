@@ -76,4 +76,13 @@ walkOf s =
     partOf s 6 b (λ n q c.
     partOf s 7 c (λ none here d.
     cond (not (eqb d (length s))) (refusedAs 3)
-    (walked (record { first = first; second = second; splits = n; lo1 = floatAt s q; hi1 = floatAt s (q + 8); lo2 = floatAt s (q + 16); hi2 = floatAt s (q + 24); gap = floatAt s (q + 32) })))))))
+    (walked (record {
+      first = first;
+      second = second;
+      splits = n;
+      lo1 = floatAt s q;
+      hi1 = floatAt s (q + 8);
+      lo2 = floatAt s (q + 16);
+      hi2 = floatAt s (q + 24);
+      gap = floatAt s (q + 32);
+    })))))))

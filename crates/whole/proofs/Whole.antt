@@ -39,8 +39,10 @@ module _ (s : List ℕ) where
   few-part : (kind at : ℕ) (go : ℕ → ℕ → ℕ → Walked) → ((a b c : ℕ) → Few (go a b c)) → Few (partOf s kind at go)
   unfolding partOf
   few-part kind at go f =
-      by (ltb (length s) (at + 4)) (not (eqb (kindOf (wordAt s at)) kind)) (badCount kind (countOf (wordAt s at))) (ltb (length s) (at + 4 + sizeOf kind (countOf (wordAt s at))))
-      (go (countOf (wordAt s at)) (at + 4) (at + 4 + sizeOf kind (countOf (wordAt s at)))) (f (countOf (wordAt s at)) (at + 4) (at + 4 + sizeOf kind (countOf (wordAt s at))))
+      by (ltb (length s) (at + 4)) (not (eqb (kindOf (wordAt s at)) kind)) (badCount kind (countOf (wordAt s at)))
+      (ltb (length s) (at + 4 + sizeOf kind (countOf (wordAt s at))))
+      (go (countOf (wordAt s at)) (at + 4) (at + 4 + sizeOf kind (countOf (wordAt s at))))
+      (f (countOf (wordAt s at)) (at + 4) (at + 4 + sizeOf kind (countOf (wordAt s at))))
     where
       by : (a b c d : Bool) (w : Walked) → Few w → Few (cond a (refusedAs 3) (cond b (refusedAs 2) (cond c (refusedAs 2) (cond d (refusedAs 3) w))))
       by true b c d w h = (lit≤ tt, lit≤ tt)
@@ -75,7 +77,9 @@ module _ (s : List ℕ) where
 
 -- ---- an open search: the loop ends, and its report is printed
 raw-room : (q : Question) (x : State) → openDef q (zeros 8112) (zeros 8112) lent .answer ≡ Open x → x .pairs * suc (x .quota) * 10 ≤ length (zeros 8190)
-raw-room q x e = opened-fresh q (zeros 8112) (zeros 8112) lent x (λ (y : State) (m : Memory). y .pairs * suc (y .quota) * 10 ≤ length (zeros 8190)) (λ F room. room-of (searchFor q) (sizes lent) room .raw) e
+raw-room q x e =
+    opened-fresh q (zeros 8112) (zeros 8112) lent x (λ (y : State) (m : Memory). y .pairs * suc (y .quota) * 10 ≤ length (zeros 8190))
+    (λ F room. room-of (searchFor q) (sizes lent) room .raw) e
 
 module _ (s : List ℕ) (y : Sheet) (walk : walkOf s ≡ walked y) where
   q : Question
@@ -96,14 +100,18 @@ module _ (s : List ℕ) (y : Sheet) (walk : walkOf s ≡ walked y) where
       let r = reportDef geometry (L .last) m (zeros 8190) in
       let R = loop-reports q (zeros 8112) (zeros 8112) lent x (L .last) e (L .answer) (zeros 8190) (raw-room q x e) in
       reported y walk r R
-      (printed-lines ∙ ap (λ (a : Opened). openedText a (o .memory) (zeros 8190)) e ∙ ap (λ (a : Stepped). steppedText a m (zeros 8190)) (L .answer) ∙ ap (λ (a : Reported). reportedText a (r .slice)) (R .told))
-      (λ c. complete-is-clear q (zeros 8112) (zeros 8112) lent x (L .last) e (L .answer) (zeros 8190) (R .counts) (R .regions) (R .told ∙ ap (λ (w : Word). Told w (R .counts) (R .regions)) c))
+      (printed-lines ∙ ap (λ (a : Opened). openedText a (o .memory) (zeros 8190)) e ∙ ap (λ (a : Stepped). steppedText a m (zeros 8190)) (L .answer)
+      ∙ ap (λ (a : Reported). reportedText a (r .slice)) (R .told))
+      (λ c. complete-is-clear q (zeros 8112) (zeros 8112) lent x (L .last) e (L .answer) (zeros 8190) (R .counts) (R .regions)
+      (R .told ∙ ap (λ (w : Word). Told w (R .counts) (R .regions)) c))
 
   opened-printed : (a : Opened) → o .answer ≡ a → Numbered a → Printed s
   unfolding o
   opened-printed (Open x) e n = open-printed x e
-  opened-printed (BadLine line a) e n = refused (admissionNumber a) line (n .0) (n .1) (n .2) (printed-lines ∙ ap (λ (a : Opened). openedText a (o .memory) (zeros 8190)) e)
-  opened-printed (BadQuestion a) e n = refused (askedNumber a) (askedLine a) (n .0) (n .1) (n .2) (printed-lines ∙ ap (λ (a : Opened). openedText a (o .memory) (zeros 8190)) e)
+  opened-printed (BadLine line a) e n =
+      refused (admissionNumber a) line (n .0) (n .1) (n .2) (printed-lines ∙ ap (λ (a : Opened). openedText a (o .memory) (zeros 8190)) e)
+  opened-printed (BadQuestion a) e n =
+      refused (askedNumber a) (askedLine a) (n .0) (n .1) (n .2) (printed-lines ∙ ap (λ (a : Opened). openedText a (o .memory) (zeros 8190)) e)
   opened-printed NoRoom e n = refused 19 0 (lit≤ tt) (lit≤ tt) (lit≤ tt) (printed-lines ∙ ap (λ (a : Opened). openedText a (o .memory) (zeros 8190)) e)
 
   walked-printed : Printed s

@@ -50,7 +50,8 @@ pub last-word : (ws : List ℕ) → leb 11 (length ws) ≡ true → leb (getD ws
 last-word ws a b c d e f g h j k = simp (a, b, c, d, e, f, g, h, j, k)
 
 -- a state whose fields have their widths has a state's words
-pub are-state : (x : State) → x .pairs ≤ 65535 → x .quota ≤ 65535 → x .waiting ≤ 4294967295 → x .splits ≤ 4294967295 → x .unspent ≤ 4294967295 → x .settled ≤ 4294967295 → x .given ≤ 4294967295
+pub are-state : (x : State) → x .pairs ≤ 65535 → x .quota ≤ 65535 → x .waiting ≤ 4294967295 → x .splits ≤ 4294967295 → x .unspent ≤ 4294967295
+    → x .settled ≤ 4294967295 → x .given ≤ 4294967295
     → x .width1 ≤ 255 → x .width2 ≤ 255 → isState (wordsOf x) ≡ true
 are-state x a b c d e f g h j =
     simp (le-leb _ _ a, le-leb _ _ b, le-leb _ _ c, le-leb _ _ d, le-leb _ _ e, le-leb _ _ f, le-leb _ _ g, le-leb _ _ h, le-leb _ _ j, flag-fits (x .stopped))
@@ -61,7 +62,9 @@ are-state x a b c d e f g h j =
 
 -- words behind the eleven change nothing
 pub written-state : (ws : List ℕ) (x : State) → isState (wordsOf x) ≡ true → isState (patch ws 0 (wordsOf x)) ≡ true
-written-state ws x e = and-both (leb 11 (length (patch ws 0 (wordsOf x)))) _ (le-leb 11 (length (patch ws 0 (wordsOf x))) (omega arith)) (and-second (leb 11 (length (wordsOf x))) _ e)
+written-state ws x e =
+    and-both (leb 11 (length (patch ws 0 (wordsOf x)))) _ (le-leb 11 (length (patch ws 0 (wordsOf x))) (omega arith))
+    (and-second (leb 11 (length (wordsOf x))) _ e)
   where
     and-both : (a b : Bool) → a ≡ true → b ≡ true → a && b ≡ true
     and-both a b f g = rw (f, g) refl

@@ -13,7 +13,9 @@ use Rattle.blends.proofs.level.Statement.{statement}
 use Rattle.blends.proofs.level.Tie as tie
 
 abbrev Inv-loop : tie.InvT-loop
-Inv-loop s₀ near p u x r m n i₀ s i = (length s ≡ 702) × (i ≤ m) × (take (27 * i) s ++ levelOf (alphaOf p u near x r) n (m - i) i (drop (27 * i) s) ≡ levelOf (alphaOf p u near x r) n m 0 s₀)
+Inv-loop s₀ near p u x r m n i₀ s i =
+    (length s ≡ 702) × (i ≤ m)
+    × (take (27 * i) s ++ levelOf (alphaOf p u near x r) n (m - i) i (drop (27 * i) s) ≡ levelOf (alphaOf p u near x r) n m 0 s₀)
 
 abbrev μ-loop : tie.MeasureT-loop
 μ-loop s₀ near p u x r m n i₀ s i = m - i
@@ -60,7 +62,8 @@ same-length c = search needs
 returns : tie.Need-returns Inv-loop μ-loop
 returns c =
     let a = c .before .before .before .before .args in
-    laws.level-done (alphaOf (a .p) (a .u) (a .near .now) (a .x) (a .r)) (a .r + 2) (a .p - a .r) (c .before .loop .i) (c .before .loop .s) _ (search needs) (c .before .loop .inv .2)
+    laws.level-done (alphaOf (a .p) (a .u) (a .near .now) (a .x) (a .r)) (a .r + 2) (a .p - a .r) (c .before .loop .i) (c .before .loop .s) _
+    (search needs) (c .before .loop .inv .2)
 
 pub level-spec : {M : Type 1} → statement M
 level-spec =

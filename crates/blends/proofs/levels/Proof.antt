@@ -50,7 +50,8 @@ same-length c = search needs
 returns : tie.Need-returns Inv-loop μ-loop
 returns c =
     let a = c .before .before .before .before .args in
-    laws.triangle-done (λ r. alphaOf (a .p) (a .u) (a .near .now) (endOf (a .p) (a .u) (a .near .now) (a .k) r) r) (a .p) (c .before .loop .r) (c .before .loop .s) _ (search needs) (c .before .loop .inv .2)
+    laws.triangle-done (λ r. alphaOf (a .p) (a .u) (a .near .now) (endOf (a .p) (a .u) (a .near .now) (a .k) r) r) (a .p) (c .before .loop .r)
+    (c .before .loop .s) _ (search needs) (c .before .loop .inv .2)
 
 pub levels-spec : {M : Type 1} → statement M
 levels-spec =

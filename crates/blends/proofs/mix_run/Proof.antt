@@ -12,7 +12,8 @@ use Rattle.blends.proofs.mix_run.Statement.{statement}
 use Rattle.blends.proofs.mix_run.Tie as tie
 
 abbrev Inv-loop : tie.InvT-loop
-Inv-loop s₀ at n alpha end x₀ s x = (length s ≡ length s₀) × (at ≤ x) × (x ≤ end) × (take x s ++ mixes alpha (end - x) (drop x s) ≡ take at s₀ ++ mixes alpha n (drop at s₀))
+Inv-loop s₀ at n alpha end x₀ s x =
+    (length s ≡ length s₀) × (at ≤ x) × (x ≤ end) × (take x s ++ mixes alpha (end - x) (drop x s) ≡ take at s₀ ++ mixes alpha n (drop at s₀))
 
 abbrev μ-loop : tie.MeasureT-loop
 μ-loop s₀ at n alpha end x₀ s x = end - x
@@ -56,8 +57,13 @@ loop-less c = search needs
 loop-again : tie.Need-loop-again Inv-loop μ-loop
 loop-again c =
     let args = c .before .before .before .before .before .before .args in
-    let l = c .before .before .before .before .loop in
-    (search needs, search needs, search needs, rounds.paired-turn (mixOf (args .alpha)) 26 (l .s) (l .x) (args .at + args .n) (c .mix .result) (search needs) (omega arith) (c .mix .ensures) ∙ l .inv .3)
+    let l = c .before .before .before .before .loop in (
+      search needs,
+      search needs,
+      search needs,
+      rounds.paired-turn (mixOf (args .alpha)) 26 (l .s) (l .x) (args .at + args .n) (c .mix .result) (search needs) (omega arith) (c .mix .ensures)
+          ∙ l .inv .3,
+    )
 
 same-length : tie.Need-same-length Inv-loop μ-loop
 same-length c = search needs

@@ -35,7 +35,10 @@ weigh-requires c κs = search needs
 returns : tie.Need-returns
 unfolding coefficients
 returns c = let a = c .before .before .before .before .before .before .before .before .before .before .before .args in
-    c .weigh .ensures ∙ ap (λ l. weighed nothing (a .p + 1) 0 l (a .poles .now)) (c .before .before .before .levels .ensures ∙ ap (triangle (λ r. alphaOf (a .p) (a .u) (a .near .now) (endOf (a .p) (a .u) (a .near .now) (a .k) r) r) (a .p) 0) (c .before .before .before .before .before .before .start .ensures))
+    c .weigh .ensures
+    ∙ ap (λ l. weighed nothing (a .p + 1) 0 l (a .poles .now)) (c .before .before .before .levels .ensures
+    ∙ ap (triangle (λ r. alphaOf (a .p) (a .u) (a .near .now) (endOf (a .p) (a .u) (a .near .now) (a .k) r) r) (a .p) 0)
+    (c .before .before .before .before .before .before .start .ensures))
     ∙ book.point-is (a .p) (a .u) (a .near .now) (a .poles .now) (a .k) (search needs)
 
 pub point-spec : {M : Type 1} → statement M

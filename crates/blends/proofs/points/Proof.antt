@@ -45,8 +45,13 @@ loop-again c =
     let m = c .before .before .put in (
       search needs,
       search needs,
-      loops.fill4-turn (pointsFrom (a .p) (a .u) (a .near .now) (a .poles .now)) (λ k. (pointOf (a .p) (a .u) (a .near .now) (a .poles .now) k) .x) (λ k. (pointOf (a .p) (a .u) (a .near .now) (a .poles .now) k) .y) (λ k. (pointOf (a .p) (a .u) (a .near .now) (a .poles .now) k) .z) (λ k. (pointOf (a .p) (a .u) (a .near .now) (a .poles .now) k) .w) (λ n k. unfold pointsFrom in refl) (l .out) (m .last .0) (a .p + 1) (l .k) (search needs) (omega arith)
-          (m .ensures ∙ ap (λ q. take (4 * l .k) (l .out) ++ (q .x ∷ q .y ∷ q .z ∷ q .w ∷ drop (4 * l .k + 4) (l .out))) (c .before .before .before .point .ensures)) ∙ l .inv .2,
+      loops.fill4-turn (pointsFrom (a .p) (a .u) (a .near .now) (a .poles .now)) (λ k. (pointOf (a .p) (a .u) (a .near .now) (a .poles .now) k) .x)
+          (λ k. (pointOf (a .p) (a .u) (a .near .now) (a .poles .now) k) .y) (λ k. (pointOf (a .p) (a .u) (a .near .now) (a .poles .now) k) .z)
+          (λ k. (pointOf (a .p) (a .u) (a .near .now) (a .poles .now) k) .w) (λ n k. unfold pointsFrom in refl) (l .out) (m .last .0) (a .p + 1)
+          (l .k) (search needs) (omega arith)
+          (m .ensures
+          ∙ ap (λ q. take (4 * l .k) (l .out) ++ (q .x ∷ q .y ∷ q .z ∷ q .w ∷ drop (4 * l .k + 4) (l .out)))
+          (c .before .before .before .point .ensures)) ∙ l .inv .2,
     )
 
 same-length : tie.Need-same-length Inv-loop μ-loop
@@ -55,7 +60,8 @@ same-length c = search needs
 returns : tie.Need-returns Inv-loop μ-loop
 returns c =
     let a = c .before .before .before .before .before .args in
-    loops.fill-done (pointsFrom (a .p) (a .u) (a .near .now) (a .poles .now)) (λ k. unfold pointsFrom in refl) (c .before .loop .out) _ (a .p + 1) (c .before .loop .k) (4 * c .before .loop .k) (search needs) (omega arith) (c .before .loop .inv .2)
+    loops.fill-done (pointsFrom (a .p) (a .u) (a .near .now) (a .poles .now)) (λ k. unfold pointsFrom in refl) (c .before .loop .out) _ (a .p + 1)
+    (c .before .loop .k) (4 * c .before .loop .k) (search needs) (omega arith) (c .before .loop .inv .2)
 
 pub points-spec : {M : Type 1} → statement M
 points-spec =

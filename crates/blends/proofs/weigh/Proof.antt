@@ -80,8 +80,11 @@ loop-less c = search needs
 
 loop-again : tie.Need-loop-again Inv-loop μ-loop
 loop-again c =
-    let l = c .before .before .before .before .before .before .before .loop in
-    (search needs, laws.weigh-turn (l .q) (c .plus .result) (c .before .before .before .before .before .before .before .before .before .before .args .n) (l .j) _ _ (search needs) (c .plus .ensures) ∙ l .inv .1)
+    let l = c .before .before .before .before .before .before .before .loop in (
+      search needs,
+      laws.weigh-turn (l .q) (c .plus .result) (c .before .before .before .before .before .before .before .before .before .before .args .n) (l .j) _
+          _ (search needs) (c .plus .ensures) ∙ l .inv .1,
+    )
 
 returns : tie.Need-returns Inv-loop μ-loop
 returns c = laws.weigh-done (c .before .loop .q) _ (c .before .before .before .before .args .n) (c .before .loop .j) _ _ (search needs) (c .before .loop .inv .1)

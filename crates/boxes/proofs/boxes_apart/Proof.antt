@@ -24,7 +24,11 @@ ranges-apart-requires-3 c κs = search needs
 
 returns-3 : tie.Need-returns-3
 unfolding boxesApart
-returns-3 c = simp (sym (c .before .before .before .before .ranges-apart .ensures) ∙ c .before .before .before .if1 .left, sym (c .before .before .ranges-apart2 .ensures) ∙ c .before .if2 .left) (c .ranges-apart3 .ensures)
+returns-3 c =
+    simp (
+      sym (c .before .before .before .before .ranges-apart .ensures) ∙ c .before .before .before .if1 .left,
+      sym (c .before .before .ranges-apart2 .ensures) ∙ c .before .if2 .left,
+    ) (c .ranges-apart3 .ensures)
 
 pub boxes-apart-spec : {M : Type 1} → statement M
 boxes-apart-spec =

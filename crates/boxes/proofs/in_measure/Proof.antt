@@ -33,7 +33,8 @@ returns : tie.Need-returns Inv-loop μ-loop
 returns c =
     let l = c .before .before .before .before .loop in
     let points = c .before .before .before .before .before .before .args .points .now in
-    every-stop (within (neg mostCoordinate) mostCoordinate) points (l .i) nan _ (search needs) (sym (c .before .is-within .ensures) ∙ not-true _ (c .if1 .taken)) (l .inv .1)
+    every-stop (within (neg mostCoordinate) mostCoordinate) points (l .i) nan _ (search needs)
+    (sym (c .before .is-within .ensures) ∙ not-true _ (c .if1 .taken)) (l .inv .1)
 
 add-i : tie.Need-add-i Inv-loop μ-loop
 add-i c = search needs
@@ -44,8 +45,11 @@ loop-less c = search needs
 loop-again : tie.Need-loop-again Inv-loop μ-loop
 loop-again c =
     let l = c .before .before .before .before .loop in
-    let points = c .before .before .before .before .before .before .args .points .now in
-    (search needs, every-on (within (neg mostCoordinate) mostCoordinate) points (l .i) nan (search needs) (sym (c .before .is-within .ensures) ∙ not-false _ (c .if1 .left)) ∙ l .inv .1)
+    let points = c .before .before .before .before .before .before .args .points .now in (
+      search needs,
+      every-on (within (neg mostCoordinate) mostCoordinate) points (l .i) nan (search needs)
+          (sym (c .before .is-within .ensures) ∙ not-false _ (c .if1 .left)) ∙ l .inv .1,
+    )
 
 returns-2 : tie.Need-returns-2 Inv-loop μ-loop
 returns-2 c =

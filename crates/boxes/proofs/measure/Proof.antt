@@ -57,7 +57,8 @@ returns-3 c =
     let a = c .before .before .before .before .before .before .before .before .before .before .before .args in
     let p = c .before .before .before .before .before .net-points in
     let t = c .before .in-measure in
-    let m = in-is (a .net .now) (p .last .1 .0) (a .out .now) (length (a .net .now) / 4 * 3) (p .ensures) refl (omega arith) (omega arith) (t .result) (t .ensures) (c .if3 .taken) in
+    let m = in-is (a .net .now) (p .last .1 .0) (a .out .now) (length (a .net .now) / 4 * 3) (p .ensures) refl (omega arith) (omega arith) (t .result)
+    (t .ensures) (c .if3 .taken) in
     ((m .counted, search needs), m .left)
 
 same-length-2 : tie.Need-same-length-2
@@ -68,7 +69,8 @@ returns-4 c =
     let a = c .before .before .before .before .before .before .before .before .before .before .before .args in
     let p = c .before .before .before .before .before .net-points in
     let t = c .before .in-measure in
-    let m = out-is (a .net .now) (p .last .1 .0) (a .out .now) (length (a .net .now) / 4 * 3) (p .ensures) refl (omega arith) (omega arith) (t .result) (t .ensures) (c .if3 .left) in
+    let m = out-is (a .net .now) (p .last .1 .0) (a .out .now) (length (a .net .now) / 4 * 3) (p .ensures) refl (omega arith) (omega arith)
+    (t .result) (t .ensures) (c .if3 .left) in
     ((m .counted, search needs), m .left)
 
 pub measure-spec : {M : Type 1} → statement M

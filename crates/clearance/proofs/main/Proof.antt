@@ -32,10 +32,16 @@ answer-requires : tie.Need-answer-requires
 answer-requires c κs = search needs
 
 array-share-prefix-out : tie.Need-array-share-prefix-out
-array-share-prefix-out c = text-fits (take (c .before .before .before .before .before .read-full .result) (c .before .before .before .before .before .read-full .last .1 .0)) (c .before .before .before .before .before .before .before .answer-room .result) (c .before .answer .ensures)
+array-share-prefix-out c =
+    text-fits (take (c .before .before .before .before .before .read-full .result) (c .before .before .before .before .before .read-full .last .1 .0))
+    (c .before .before .before .before .before .before .before .answer-room .result) (c .before .answer .ensures)
 
 slice-aggregate-print-answer : tie.Need-slice-aggregate-print-answer
-slice-aggregate-print-answer c = sym (length-take-le (c .before .before .answer .result) (c .before .before .answer .last .1 .0) (text-fits (take (c .before .before .before .before .before .before .read-full .result) (c .before .before .before .before .before .before .read-full .last .1 .0)) (c .before .before .before .before .before .before .before .before .answer-room .result) (c .before .before .answer .ensures)))
+slice-aggregate-print-answer c =
+    sym (length-take-le (c .before .before .answer .result) (c .before .before .answer .last .1 .0)
+    (text-fits (take (c .before .before .before .before .before .before .read-full .result)
+    (c .before .before .before .before .before .before .read-full .last .1 .0))
+    (c .before .before .before .before .before .before .before .before .answer-room .result) (c .before .before .answer .ensures)))
 
 print-answer-requires : tie.Need-print-answer-requires
 print-answer-requires c κs = search needs

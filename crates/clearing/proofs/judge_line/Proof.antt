@@ -30,7 +30,8 @@ returns-2 c =
     let a = c .before .before .before .before .before .before .before .before .args in
     let l = c .before .before .before .before .before .along-one-line in
     ap (λ t. cond t Settled Unseparated) (sym (c .if1 .taken))
-    ∙ line-verdict (a .gap) (a .p .now) (a .q .now) (l .result) _ _ _ (c .before .apart-along .result) (c .before .before .before .along .given .1) (c .before .apart-along .ensures)
+    ∙ line-verdict (a .gap) (a .p .now) (a .q .now) (l .result) _ _ _ (c .before .apart-along .result) (c .before .before .before .along .given .1)
+    (c .before .apart-along .ensures)
     ∙ ap (lineVerdict (a .gap) (a .p .now) (a .q .now)) (l .ensures)
 
 returns-3 : tie.Need-returns-3
@@ -38,7 +39,8 @@ returns-3 c =
     let a = c .before .before .before .before .before .before .before .before .args in
     let l = c .before .before .before .before .before .along-one-line in
     ap (λ t. cond t Settled Unseparated) (sym (c .if1 .left))
-    ∙ line-verdict (a .gap) (a .p .now) (a .q .now) (l .result) _ _ _ (c .before .apart-along .result) (c .before .before .before .along .given .1) (c .before .apart-along .ensures)
+    ∙ line-verdict (a .gap) (a .p .now) (a .q .now) (l .result) _ _ _ (c .before .apart-along .result) (c .before .before .before .along .given .1)
+    (c .before .apart-along .ensures)
     ∙ ap (lineVerdict (a .gap) (a .p .now) (a .q .now)) (l .ensures)
 
 pub judge-line-spec : {M : Type 1} → statement M

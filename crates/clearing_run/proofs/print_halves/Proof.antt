@@ -38,7 +38,10 @@ slice-reshare-prefix-print-net : tie.Need-slice-reshare-prefix-print-net
 slice-reshare-prefix-print-net c = search needs
 
 slice-aggregate-print-net : tie.Need-slice-aggregate-print-net
-slice-aggregate-print-net c = sym (length-take-le (4 * c .before .before .before .before .before .before .before .before .before .args .w) (c .before .before .before .before .before .before .halve-slot .last .0) (omega (arith, c .before .before .before .before .before .before .halve-slot .kept .0)))
+slice-aggregate-print-net c =
+    sym (length-take-le (4 * c .before .before .before .before .before .before .before .before .before .args .w)
+    (c .before .before .before .before .before .before .halve-slot .last .0)
+    (omega (arith, c .before .before .before .before .before .before .halve-slot .kept .0)))
 
 print-net-requires-2 : tie.Need-print-net-requires-2
 print-net-requires-2 c κs = search needs

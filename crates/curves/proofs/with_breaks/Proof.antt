@@ -30,7 +30,8 @@ nets-requires : tie.Need-nets-requires
 nets-requires c κs =
     let m = c .before .before .before .breaks in
     let h = c .before .before .before .before .before .before .before .before .before .before .pre in
-    let n = length-take-le (m .result) (m .last .1 .1 .1 .0) (omega (arith, m .kept .1 .1 .1 .0, c .before .before .before .before .before .break-room .ensures, m .ensures .4)) in
+    let n = length-take-le (m .result) (m .last .1 .1 .1 .0)
+    (omega (arith, m .kept .1 .1 .1 .0, c .before .before .before .before .before .break-room .ensures, m .ensures .4)) in
     ((h .0 .0, h .0 .1, h .0 .2, h .0 .3, h .0 .4, h .1 .0), (omega (arith, m .ensures .3), omega (arith, m .ensures .4), laws.room-of _ _ (m .ensures .2) (h .1 .2)))
 
 same-length : tie.Need-same-length
@@ -39,7 +40,9 @@ same-length c = search needs
 returns : tie.Need-returns
 returns c =
     let a = c .before .before .before .before .before .before .before .before .before .before .before .before .before .args in
-    c .before .before .nets .ensures ∙ ap (λ l. patch (a .out .now) 0 (netsOf (a .p) (a .knots .now) (a .flat .now) (a .poles .now) l)) (c .before .before .before .before .before .before .breaks .ensures .2)
+    c .before .before .nets .ensures
+    ∙ ap (λ l. patch (a .out .now) 0 (netsOf (a .p) (a .knots .now) (a .flat .now) (a .poles .now) l))
+    (c .before .before .before .before .before .before .breaks .ensures .2)
 
 pub with-breaks-spec : {M : Type 1} → statement M
 with-breaks-spec =

@@ -35,7 +35,9 @@ with-breaks-requires c κs =
     let n = length (c .before .before .before .before .before .before .before .before .before .before .before .before .before .args .coords .now) / 3 in
     let h = c .before .before .before .before .before .before .before .before .before .before .before .before .before .pre in
     let m = c .before .before .before .before .line-poles in
-    let e = m .kept .1 .1 .0 ∙ length-take-le (4 * n) (c .before .before .before .before .before .before .before .pole-room .result) (omega (arith, c .before .before .before .before .before .before .before .pole-room .ensures)) in
+    let e = m .kept .1 .1 .0
+    ∙ length-take-le (4 * n) (c .before .before .before .before .before .before .before .pole-room .result)
+    (omega (arith, c .before .before .before .before .before .before .before .pole-room .ensures)) in
     ((h .0 .0, h .0 .1, omega (arith, h), omega (arith, h), omega (arith, h)), h .1)
 
 same-length : tie.Need-same-length
@@ -45,7 +47,8 @@ returns : tie.Need-returns
 returns c =
     let a = c .before .before .before .before .before .before .before .before .before .before .before .before .before .before .before .before .before .args in
     c .before .before .before .with-breaks .ensures
-    ∙ ap (λ l. patch (a .out .now) 0 (netsOf (a .p) (a .knots .now) (a .flat .now) l (breaksOf (a .lo) (a .hi) (a .knots .now)))) (c .before .before .before .before .before .before .before .before .line-poles .ensures)
+    ∙ ap (λ l. patch (a .out .now) 0 (netsOf (a .p) (a .knots .now) (a .flat .now) l (breaksOf (a .lo) (a .hi) (a .knots .now))))
+    (c .before .before .before .before .before .before .before .before .line-poles .ensures)
 
 pub with-poles-spec : {M : Type 1} → statement M
 with-poles-spec =

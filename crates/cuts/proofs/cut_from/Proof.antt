@@ -47,7 +47,9 @@ same-length : tie.Need-same-length Inv-loop μ-loop
 same-length c = search needs
 
 returns : tie.Need-returns Inv-loop μ-loop
-returns c = rounds.remains-done (lerpOf (c .before .before .before .args .f)) (c .before .before .before .args .n) (c .before .loop .r) (c .before .loop .s) _ (search needs) (c .before .loop .inv .2)
+returns c =
+    rounds.remains-done (lerpOf (c .before .before .before .args .f)) (c .before .before .before .args .n) (c .before .loop .r) (c .before .loop .s) _
+    (search needs) (c .before .loop .inv .2)
 
 pub cut-from-spec : {M : Type 1} → statement M
 cut-from-spec =

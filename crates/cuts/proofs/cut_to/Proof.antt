@@ -56,7 +56,9 @@ loop-again c =
       search needs,
       search needs,
       rounds.firsts-turn (lerpOf (a .f)) (a .n) (l .r) (l .low) (q .last .0) (l .s) (m .last .0) (search needs) (l .inv .1) (l .inv .0)
-          (q .ensures ∙ ap (λ p. take (l .r * 4) (l .low) ++ (p .x ∷ p .y ∷ p .z ∷ p .w ∷ drop (l .r * 4 + 4) (l .low))) (c .before .before .before .before .before .before .before .first .ensures)) (m .ensures) ∙ l .inv .3,
+          (q .ensures
+          ∙ ap (λ p. take (l .r * 4) (l .low) ++ (p .x ∷ p .y ∷ p .z ∷ p .w ∷ drop (l .r * 4 + 4) (l .low)))
+          (c .before .before .before .before .before .before .before .first .ensures)) (m .ensures) ∙ l .inv .3,
     )
 
 same-length : tie.Need-same-length Inv-loop μ-loop

@@ -28,7 +28,8 @@ copy-from-slice-requires : tie.Need-copy-from-slice-requires
 copy-from-slice-requires c κs =
     let h = c .before .before .before .before .before .before .before .before .before .before .scratch in
     let m = c .before .before .before .before .before .before .cut-to in
-    let n = length-take-le (c .before .before .before .before .before .before .before .before .before .before .before .before .args .n * 4) (h .result) (omega (arith, h .ensures)) in
+    let n = length-take-le (c .before .before .before .before .before .before .before .before .before .before .before .before .args .n * 4)
+    (h .result) (omega (arith, h .ensures)) in
     m .kept .0 ∙ c .before .before .before .before .before .before .before .before .before .before .before .before .pre .1 ∙ sym n ∙ sym (m .kept .1 .1 .1 .0)
 
 same-length : tie.Need-same-length

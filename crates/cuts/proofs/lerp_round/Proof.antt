@@ -60,7 +60,9 @@ same-length : tie.Need-same-length Inv-loop μ-loop
 same-length c = search needs
 
 returns : tie.Need-returns Inv-loop μ-loop
-returns c = rounds.paired-done (lerpOf (c .before .before .before .args .f)) 4 (c .before .loop .s) _ (c .before .loop .x) (c .before .before .before .args .m) (search needs) (c .before .loop .inv .2)
+returns c =
+    rounds.paired-done (lerpOf (c .before .before .before .args .f)) 4 (c .before .loop .s) _ (c .before .loop .x)
+    (c .before .before .before .args .m) (search needs) (c .before .loop .inv .2)
 
 pub lerp-round-spec : {M : Type 1} → statement M
 lerp-round-spec =

@@ -20,7 +20,9 @@ same-length c = search needs
 returns : tie.Need-returns
 unfolding restricted
 returns c = let a = c .before .before .before .before .before .before .before .before .before .before .args in
-    c .before .before .lower-part .ensures ∙ ap (λ g. lowerPart g (a .n) (c .before .before .before .before .before .before .before .upper-part .last .0)) (c .before .before .before .rest .ensures)
+    c .before .before .lower-part .ensures
+    ∙ ap (λ g. lowerPart g (a .n) (c .before .before .before .before .before .before .before .upper-part .last .0))
+    (c .before .before .before .rest .ensures)
     ∙ ap (lowerPart (restOf (a .f0) (a .f1)) (a .n)) (c .before .before .before .before .before .before .before .upper-part .ensures)
 
 pub restrict-spec : {M : Type 1} → statement M

@@ -17,7 +17,8 @@ dot-requires-2 c κs = search needs
 returns : tie.Need-returns
 returns c =
     let a = c .before .before .before .args in
-    no-longer-is (a .a) (a .b) (ap (λ x. le x (dotOf (a .b) (a .b))) (sym (c .before .before .dot .ensures)) ∙ ap (λ x. le (c .before .before .dot .result) x) (sym (c .before .dot2 .ensures)) ∙ c .if1 .taken)
+    no-longer-is (a .a) (a .b) (ap (λ x. le x (dotOf (a .b) (a .b))) (sym (c .before .before .dot .ensures))
+    ∙ ap (λ x. le (c .before .before .dot .result) x) (sym (c .before .dot2 .ensures)) ∙ c .if1 .taken)
 
 rough-sqrt-requires : tie.Need-rough-sqrt-requires
 rough-sqrt-requires c κs = search needs
@@ -30,8 +31,10 @@ returns-2 c =
     let k = c .before .before .before .before in
     let x = k .before .before .before .before .before .dot in
     let y = k .before .before .before .before .dot2 in
-    longer-is (k .before .before .before .before .before .before .args .a) (k .before .before .before .before .before .before .args .b) (x .result) (y .result) (mul binary64 (ofBits binary64 0x3ff0_1000_0000_0000) (k .before .before .rough-sqrt .result)) (k .before .above .result)
-    (x .ensures) (y .ensures) (mul-fits binary64 (ofBits binary64 0x3ff0_1000_0000_0000) (k .before .before .rough-sqrt .result)) (search needs) (k .if2 .taken) (c .before .before .before .if3 .taken) (c .before .before .if4 .taken) (c .before .if5 .taken) (c .if6 .taken)
+    longer-is (k .before .before .before .before .before .before .args .a) (k .before .before .before .before .before .before .args .b) (x .result)
+    (y .result) (mul binary64 (ofBits binary64 0x3ff0_1000_0000_0000) (k .before .before .rough-sqrt .result)) (k .before .above .result)
+    (x .ensures) (y .ensures) (mul-fits binary64 (ofBits binary64 0x3ff0_1000_0000_0000) (k .before .before .rough-sqrt .result)) (search needs)
+    (k .if2 .taken) (c .before .before .before .if3 .taken) (c .before .before .if4 .taken) (c .before .if5 .taken) (c .if6 .taken)
 
 norm-requires : tie.Need-norm-requires
 norm-requires c κs = search needs

@@ -39,7 +39,8 @@ returns : tie.Need-returns
 returns c =
     let a = c .before .before .before .before .before .before .before .args in
     let m = c .before .before .flat-knots in
-    laws.bounds-are (a .degree) (a .knots .now) (a .mults .now) (m .last .1 .1 .0) (m .result) (c .count .result) (m .ensures .0) (c .count .ensures) (m .ensures .2) (omega arith)
+    laws.bounds-are (a .degree) (a .knots .now) (a .mults .now) (m .last .1 .1 .0) (m .result) (c .count .result) (m .ensures .0) (c .count .ensures)
+    (m .ensures .2) (omega arith)
 
 pub bounds-spec : {M : Type 1} → statement M
 bounds-spec =

@@ -12,7 +12,9 @@ use Rattle.knots.proofs.breaks.Statement.{statement}
 use Rattle.knots.proofs.breaks.Tie as tie
 
 abbrev Inv-loop : tie.InvT-loop
-Inv-loop knots lo hi out₀ n₀ i₀ out n i = (length out ≡ length out₀) × (length knots + 2 ≤ length out) × (i ≤ length knots) × (1 ≤ n) × (n ≤ i + 1) × (drop (n + 1) out ≡ drop (n + 1) out₀) × (take n out ++ between lo hi (drop i knots) (hi ∷ []) ≡ breaksOf lo hi knots)
+Inv-loop knots lo hi out₀ n₀ i₀ out n i =
+    (length out ≡ length out₀) × (length knots + 2 ≤ length out) × (i ≤ length knots) × (1 ≤ n) × (n ≤ i + 1) × (drop (n + 1) out ≡ drop (n + 1) out₀)
+    × (take n out ++ between lo hi (drop i knots) (hi ∷ []) ≡ breaksOf lo hi knots)
 
 abbrev μ-loop : tie.MeasureT-loop
 μ-loop knots lo hi out₀ n₀ i₀ out n i = length knots - i
@@ -22,8 +24,15 @@ slice-write-out c = search needs
 
 loop-holds : tie.Need-loop-holds Inv-loop μ-loop
 loop-holds c =
-    let a = c .before .before .args in
-    (refl, simp length-set (c .before .before .pre), search needs, search needs, search needs, refl, laws.breaks-start (a .lo) (a .out .now) (between (a .lo) (a .hi) (a .knots .now) (a .hi ∷ [])) (omega arith))
+    let a = c .before .before .args in (
+      refl,
+      simp length-set (c .before .before .pre),
+      search needs,
+      search needs,
+      search needs,
+      refl,
+      laws.breaks-start (a .lo) (a .out .now) (between (a .lo) (a .hi) (a .knots .now) (a .hi ∷ [])) (omega arith),
+    )
 
 mul-k : tie.Need-mul-k Inv-loop μ-loop
 mul-k c = search needs
@@ -53,8 +62,16 @@ loop-again : tie.Need-loop-again Inv-loop μ-loop
 loop-again c =
     let a = c .before .before .before .before .before .before .args in
     let l = c .before .before .before .loop in
-    let k = c .kept .ensures in
-    (simp length-set (l .inv .0 ∙ simp length-set refl), simp length-set (l .inv .1), search needs, omega arith, omega arith, laws.breaks-rest (l .out) _ _ (l .n) (c .kept .result) (l .inv .5), laws.breaks-turn (a .lo) (a .hi) (a .knots .now) (a .hi ∷ []) (l .out) (l .n) (l .i) (c .kept .result) (search needs) (omega arith) (k .0) ∙ l .inv .6)
+    let k = c .kept .ensures in (
+      simp length-set (l .inv .0 ∙ simp length-set refl),
+      simp length-set (l .inv .1),
+      search needs,
+      omega arith,
+      omega arith,
+      laws.breaks-rest (l .out) _ _ (l .n) (c .kept .result) (l .inv .5),
+      laws.breaks-turn (a .lo) (a .hi) (a .knots .now) (a .hi ∷ []) (l .out) (l .n) (l .i) (c .kept .result) (search needs) (omega arith) (k .0)
+          ∙ l .inv .6,
+    )
 
 mul-out-2 : tie.Need-mul-out-2 Inv-loop μ-loop
 mul-out-2 c = search needs
@@ -73,8 +90,14 @@ returns c =
     let a = c .before .before .before .before .args in
     let l = c .before .loop in
     let e = laws.breaks-done (a .lo) (a .hi) (a .knots .now) (l .out) _ (l .n) (l .i) (search needs) (omega arith) (l .inv .6) in
-    let h : l .n + 1 ≤ length (set (l .out) (l .n) (a .hi)) = simp length-set (omega arith) in
-    (sym (length-take-le (l .n + 1) (set (l .out) (l .n) (a .hi)) h) ∙ ap length e, laws.patched (l .n + 1) (set (l .out) (l .n) (a .hi)) (a .out .now) _ h e (laws.breaks-behind (l .out) (a .out .now) (a .lo) (a .hi) (l .n) (l .inv .5)), e, omega arith, omega arith)
+    let h : l .n + 1 ≤ length (set (l .out) (l .n) (a .hi)) = simp length-set (omega arith) in (
+      sym (length-take-le (l .n + 1) (set (l .out) (l .n) (a .hi)) h) ∙ ap length e,
+      laws.patched (l .n + 1) (set (l .out) (l .n) (a .hi)) (a .out .now) _ h e
+          (laws.breaks-behind (l .out) (a .out .now) (a .lo) (a .hi) (l .n) (l .inv .5)),
+      e,
+      omega arith,
+      omega arith,
+    )
 
 pub breaks-spec : {M : Type 1} → statement M
 breaks-spec =

@@ -13,7 +13,9 @@ use Rattle.knots.proofs.flat_knots.Statement.{statement}
 use Rattle.knots.proofs.flat_knots.Tie as tie
 
 abbrev Inv-loop : tie.InvT-loop
-Inv-loop knots mults out₀ at₀ i₀ out at i = (length out ≡ length out₀) × (i ≤ length knots) × (at + total (drop i mults) ≡ total mults) × (drop at out ≡ drop at out₀) × (take at out ++ flatKnots (drop i knots) (drop i mults) ≡ flatKnots knots mults)
+Inv-loop knots mults out₀ at₀ i₀ out at i =
+    (length out ≡ length out₀) × (i ≤ length knots) × (at + total (drop i mults) ≡ total mults) × (drop at out ≡ drop at out₀)
+    × (take at out ++ flatKnots (drop i knots) (drop i mults) ≡ flatKnots knots mults)
 
 abbrev μ-loop : tie.MeasureT-loop
 μ-loop knots mults out₀ at₀ i₀ out at i = length knots - i
@@ -65,8 +67,14 @@ loop-again c =
     let l = c .before .before .before .before .before .before .before .before .loop in
     let e = tests.total-on (a .mults .now) (l .i) (omega arith) in
     let k = count .ensures in
-    let m = c .before .before .repeat in
-    (search needs, search needs, omega (arith, l .inv .2), laws.flat-rest _ (l .out) (m .last .0) _ (l .at) (count .result) (omega (arith, l .inv .2)) (m .ensures) (l .inv .3), laws.flat-turn (a .knots .now) (a .mults .now) (l .out) (m .last .0) (l .at) (l .i) (count .result) (search needs) (omega arith) (omega (arith, l .inv .2)) k (m .ensures) ∙ l .inv .4)
+    let m = c .before .before .repeat in (
+      search needs,
+      search needs,
+      omega (arith, l .inv .2),
+      laws.flat-rest _ (l .out) (m .last .0) _ (l .at) (count .result) (omega (arith, l .inv .2)) (m .ensures) (l .inv .3),
+      laws.flat-turn (a .knots .now) (a .mults .now) (l .out) (m .last .0) (l .at) (l .i) (count .result) (search needs) (omega arith)
+          (omega (arith, l .inv .2)) k (m .ensures) ∙ l .inv .4,
+    )
 
 same-length : tie.Need-same-length Inv-loop μ-loop
 same-length c = search needs

@@ -11,7 +11,9 @@ use Rattle.knots.proofs.repeat.Statement.{statement}
 use Rattle.knots.proofs.repeat.Tie as tie
 
 abbrev Inv-loop : tie.InvT-loop
-Inv-loop out₀ at n k end x₀ out x = (length out ≡ length out₀) × (at ≤ x) × (x ≤ end) × (take x out ++ repeated (end - x) k (drop end out) ≡ take at out₀ ++ repeated n k (drop end out₀))
+Inv-loop out₀ at n k end x₀ out x =
+    (length out ≡ length out₀) × (at ≤ x) × (x ≤ end)
+    × (take x out ++ repeated (end - x) k (drop end out) ≡ take at out₀ ++ repeated n k (drop end out₀))
 
 abbrev μ-loop : tie.MeasureT-loop
 μ-loop out₀ at n k end x₀ out x = end - x
@@ -36,8 +38,13 @@ loop-less c = search needs
 
 loop-again : tie.Need-loop-again Inv-loop μ-loop
 loop-again c =
-    let args = c .before .before .args in
-    (search needs, search needs, search needs, laws.repeat-turn (args .k) (c .before .loop .out) (c .before .loop .x) (args .at + args .n) (search needs) (omega arith) ∙ c .before .loop .inv .3)
+    let args = c .before .before .args in (
+      search needs,
+      search needs,
+      search needs,
+      laws.repeat-turn (args .k) (c .before .loop .out) (c .before .loop .x) (args .at + args .n) (search needs) (omega arith)
+          ∙ c .before .loop .inv .3,
+    )
 
 same-length : tie.Need-same-length Inv-loop μ-loop
 same-length c = search needs

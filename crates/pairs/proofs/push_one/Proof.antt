@@ -16,20 +16,34 @@ returns : tie.Need-returns
 returns c =
     let args = c .before .before .before .before .before .before .before .before .before .before .args in
     let pre = c .before .before .before .before .before .before .before .before .before .before .pre in
-    one-apart (args .gap) (pieces (args .w1) (args .pieces1 .now) (args .breaks1 .now)) (pieces (args .w2) (args .pieces2 .now) (args .breaks2 .now)) (args .i) (args .j) (args .k) (args .box1) (args .box2) _ (pre .0 .0) (pre .0 .1) (c .before .boxes-apart .ensures) (nodes (args .nets1 .now) (args .nets2 .now) (args .ranges .now) (args .depths .now)) (c .if1 .taken)
+    one-apart (args .gap) (pieces (args .w1) (args .pieces1 .now) (args .breaks1 .now)) (pieces (args .w2) (args .pieces2 .now) (args .breaks2 .now))
+    (args .i) (args .j) (args .k) (args .box1) (args .box2) _ (pre .0 .0) (pre .0 .1) (c .before .boxes-apart .ensures)
+    (nodes (args .nets1 .now) (args .nets2 .now) (args .ranges .now) (args .depths .now)) (c .if1 .taken)
 
 put-pair-requires : tie.Need-put-pair-requires
 put-pair-requires c κs =
     let args = c .before .before .before .before .before .before .before .before .before .before .before .before .before .before .args in
-    let pre = c .before .before .before .before .before .before .before .before .before .before .before .before .before .before .pre in
-    (pre .1 .0, one-room (args .gap) (pieces (args .w1) (args .pieces1 .now) (args .breaks1 .now)) (pieces (args .w2) (args .pieces2 .now) (args .breaks2 .now)) (args .i) (args .j) (args .k) (args .box1) (args .box2) _ (pre .0 .0) (pre .0 .1) (c .before .before .before .before .before .boxes-apart .ensures) (nodes (args .nets1 .now) (args .nets2 .now) (args .ranges .now) (args .depths .now)) (c .before .before .before .before .if1 .left) (pre .1 .1))
+    let pre = c .before .before .before .before .before .before .before .before .before .before .before .before .before .before .pre in (
+      pre .1 .0,
+      one-room (args .gap) (pieces (args .w1) (args .pieces1 .now) (args .breaks1 .now))
+          (pieces (args .w2) (args .pieces2 .now) (args .breaks2 .now)) (args .i) (args .j) (args .k) (args .box1) (args .box2) _ (pre .0 .0)
+          (pre .0 .1) (c .before .before .before .before .before .boxes-apart .ensures)
+          (nodes (args .nets1 .now) (args .nets2 .now) (args .ranges .now) (args .depths .now)) (c .before .before .before .before .if1 .left)
+          (pre .1 .1),
+    )
 
 add-result : tie.Need-add-result
 add-result c =
     let b = c .before .before .before .before .before .before .before .before .before .before .before .before .before in
     let args = b .before .before .before .before .before .before .before .before .before .before .args in
     let pre = b .before .before .before .before .before .before .before .before .before .before .pre in
-    let h : args .k + 1 ≤ length (args .depths .now) = (one-room (args .gap) (pieces (args .w1) (args .pieces1 .now) (args .breaks1 .now)) (pieces (args .w2) (args .pieces2 .now) (args .breaks2 .now)) (args .i) (args .j) (args .k) (args .box1) (args .box2) _ (pre .0 .0) (pre .0 .1) (b .before .boxes-apart .ensures) (nodes (args .nets1 .now) (args .nets2 .now) (args .ranges .now) (args .depths .now)) (b .if1 .left) (pre .1 .1)) .3 in omega (arith, h, b .before .before .before .before .before .before .before .before .before .before .good .1 .1 .1 .1 .1 .1 .1 .1 .1 .1 .1 .1 .1 .1 .1 .0 .0)
+    let h : args .k + 1 ≤ length (args .depths .now) =
+    (one-room (args .gap) (pieces (args .w1) (args .pieces1 .now) (args .breaks1 .now)) (pieces (args .w2) (args .pieces2 .now) (args .breaks2 .now)) (args .i) (args .j) (args .k) (args .box1) (args .box2) _ (pre .0 .0) (pre .0 .1) (b .before .boxes-apart .ensures) (nodes (args .nets1 .now) (args .nets2 .now) (args .ranges .now) (args .depths .now)) (b .if1 .left) (pre .1 .1)) .3
+    in omega (
+      arith,
+      h,
+      b .before .before .before .before .before .before .before .before .before .before .good .1 .1 .1 .1 .1 .1 .1 .1 .1 .1 .1 .1 .1 .1 .1 .0 .0,
+    )
 
 same-length : tie.Need-same-length
 same-length c = search needs
@@ -48,7 +62,10 @@ returns-2 c =
     let b = c .before .before .before .before .before .before .before .before .before .before .before .before .before in
     let args = b .before .before .before .before .before .before .before .before .before .before .args in
     let pre = b .before .before .before .before .before .before .before .before .before .before .pre in
-    one-near (args .gap) (pieces (args .w1) (args .pieces1 .now) (args .breaks1 .now)) (pieces (args .w2) (args .pieces2 .now) (args .breaks2 .now)) (args .i) (args .j) (args .k) (args .box1) (args .box2) _ (pre .0 .0) (pre .0 .1) (b .before .boxes-apart .ensures) (nodes (args .nets1 .now) (args .nets2 .now) (args .ranges .now) (args .depths .now)) _ (b .if1 .left) (c .before .before .before .before .before .before .before .before .put-pair .ensures)
+    one-near (args .gap) (pieces (args .w1) (args .pieces1 .now) (args .breaks1 .now)) (pieces (args .w2) (args .pieces2 .now) (args .breaks2 .now))
+    (args .i) (args .j) (args .k) (args .box1) (args .box2) _ (pre .0 .0) (pre .0 .1) (b .before .boxes-apart .ensures)
+    (nodes (args .nets1 .now) (args .nets2 .now) (args .ranges .now) (args .depths .now)) _ (b .if1 .left)
+    (c .before .before .before .before .before .before .before .before .put-pair .ensures)
 
 pub push-one-spec : {M : Type 1} → statement M
 push-one-spec =

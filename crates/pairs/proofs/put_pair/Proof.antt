@@ -69,7 +69,10 @@ returns : tie.Need-returns
 returns c =
     let b = c .before .before .before .before .before .before .before .before .before .before in
     let args = b .before .before .before .before .before .before .before .before .before .before .before .before .before .before .args in
-    pair-put (pieces (args .w1) (args .pieces1 .now) (args .breaks1 .now)) (pieces (args .w2) (args .pieces2 .now) (args .breaks2 .now)) (args .k) (args .i) (args .j) (nodes (args .nets1 .now) (args .nets2 .now) (args .ranges .now) (args .depths .now)) _ _ _ _ (omega (arith, b .before .before .before .before .before .before .before .before .before .before .before .before .before .before .pre .1 .3)) (b .before .before .before .before .put-slot .ensures) (b .put-slot2 .ensures) (c .before .before .put4 .ensures) refl
+    pair-put (pieces (args .w1) (args .pieces1 .now) (args .breaks1 .now)) (pieces (args .w2) (args .pieces2 .now) (args .breaks2 .now)) (args .k)
+    (args .i) (args .j) (nodes (args .nets1 .now) (args .nets2 .now) (args .ranges .now) (args .depths .now)) _ _ _ _
+    (omega (arith, b .before .before .before .before .before .before .before .before .before .before .before .before .before .before .pre .1 .3))
+    (b .before .before .before .before .put-slot .ensures) (b .put-slot2 .ensures) (c .before .before .put4 .ensures) refl
 
 pub put-pair-spec : {M : Type 1} → statement M
 put-pair-spec =

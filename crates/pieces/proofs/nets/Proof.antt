@@ -13,7 +13,8 @@ use Rattle.pieces.proofs.nets.Statement.{statement}
 use Rattle.pieces.proofs.nets.Tie as tie
 
 abbrev Inv-loop : tie.InvT-loop
-Inv-loop knots flat poles p breaks out₀ len i₀ out i = (length out ≡ length out₀) × (i ≤ length breaks - 1) × (drop (i * (4 * (p + 1))) out ≡ drop (i * (4 * (p + 1))) out₀)
+Inv-loop knots flat poles p breaks out₀ len i₀ out i =
+    (length out ≡ length out₀) × (i ≤ length breaks - 1) × (drop (i * (4 * (p + 1))) out ≡ drop (i * (4 * (p + 1))) out₀)
     × (take (i * (4 * (p + 1))) out ++ netsOf p knots flat poles (drop i breaks) ≡ netsOf p knots flat poles breaks)
 
 abbrev μ-loop : tie.MeasureT-loop
@@ -53,7 +54,12 @@ shared-slice-read-net-2 : tie.Need-shared-slice-read-net-2 Inv-loop μ-loop
 shared-slice-read-net-2 c = search needs
 
 mul-net-3 : tie.Need-mul-net-3 Inv-loop μ-loop
-mul-net-3 c = omega (arith, laws.small (c .before .before .before .loop .i) (c .before .before .before .before .before .before .before .before .before .args .p) (omega arith) (search needs))
+mul-net-3 c =
+    omega (
+      arith,
+      laws.small (c .before .before .before .loop .i) (c .before .before .before .before .before .before .before .before .before .args .p) (omega arith)
+          (search needs),
+    )
 
 sub-net : tie.Need-sub-net Inv-loop μ-loop
 sub-net c = search needs
@@ -64,7 +70,12 @@ part-net-start c = search needs
 part-net-end : tie.Need-part-net-end Inv-loop μ-loop
 part-net-end c =
     let args = c .before .before .before .before .before .before .before .before .before .args in
-    omega (arith, laws.room (length (args .breaks .now) - 1) (c .before .before .before .loop .i) (4 * (args .p + 1)) (length (c .before .before .before .loop .out)) (omega arith) (omega (arith, c .before .before .before .before .before .before .before .before .before .pre)))
+    omega (
+      arith,
+      laws.room (length (args .breaks .now) - 1) (c .before .before .before .loop .i) (4 * (args .p + 1))
+          (length (c .before .before .before .loop .out)) (omega arith)
+          (omega (arith, c .before .before .before .before .before .before .before .before .before .pre)),
+    )
 
 net-requires : tie.Need-net-requires Inv-loop μ-loop
 net-requires c κs = search needs
@@ -81,12 +92,16 @@ loop-again c =
     let l = c .before .before .before .before .before .before .before .loop in
     let m = c .before .before .net in
     let n = 4 * (a .p + 1) in
-    let rm : l .i * (4 * (a .p + 1)) + 4 * (a .p + 1) ≤ length (l .out) = laws.room (length (a .breaks .now) - 1) (l .i) (4 * (a .p + 1)) _ (omega arith) (omega (arith, c .before .before .before .before .before .before .before .before .before .before .before .before .before .pre)) in
-    let lv : length (m .last .1 .1 .1 .1 .1 .1 .0) ≡ 4 * (a .p + 1) = m .kept .1 .1 .1 .1 .1 .1 .0 ∙ lent-length (l .i * (4 * (a .p + 1))) (4 * (a .p + 1)) (l .out) rm in (
+    let rm : l .i * (4 * (a .p + 1)) + 4 * (a .p + 1) ≤ length (l .out) = laws.room (length (a .breaks .now) - 1) (l .i) (4 * (a .p + 1)) _
+    (omega arith) (omega (arith, c .before .before .before .before .before .before .before .before .before .before .before .before .before .pre))
+    in
+    let lv : length (m .last .1 .1 .1 .1 .1 .1 .0) ≡ 4 * (a .p + 1) = m .kept .1 .1 .1 .1 .1 .1 .0
+    ∙ lent-length (l .i * (4 * (a .p + 1))) (4 * (a .p + 1)) (l .out) rm in (
       search needs,
       search needs,
       laws.nets-rest (a .p) (a .knots .now) (a .flat .now) (a .poles .now) (a .breaks .now) n (l .i) (l .out) (m .last .1 .1 .1 .1 .1 .1 .0) rm lv _ (l .inv .2),
-      laws.nets-turn (a .p) (a .knots .now) (a .flat .now) (a .poles .now) (a .breaks .now) n (l .i) (l .out) (m .last .1 .1 .1 .1 .1 .1 .0) rm lv (omega arith) (m .ensures) ∙ l .inv .3,
+      laws.nets-turn (a .p) (a .knots .now) (a .flat .now) (a .poles .now) (a .breaks .now) n (l .i) (l .out) (m .last .1 .1 .1 .1 .1 .1 .0) rm lv
+          (omega arith) (m .ensures) ∙ l .inv .3,
     )
 
 same-length : tie.Need-same-length Inv-loop μ-loop
@@ -96,7 +111,8 @@ returns : tie.Need-returns Inv-loop μ-loop
 returns c =
     let a = c .before .before .before .before .before .before .before .args in
     let l = c .before .loop in
-    laws.nets-done (a .p) (a .knots .now) (a .flat .now) (a .poles .now) (a .breaks .now) (l .i) (l .out) _ (omega (arith, c .before .before .before .before .before .before .before .pre)) (search needs) (search needs) (l .inv .2) (l .inv .3)
+    laws.nets-done (a .p) (a .knots .now) (a .flat .now) (a .poles .now) (a .breaks .now) (l .i) (l .out) _
+    (omega (arith, c .before .before .before .before .before .before .before .pre)) (search needs) (search needs) (l .inv .2) (l .inv .3)
 
 pub nets-spec : {M : Type 1} → statement M
 nets-spec =

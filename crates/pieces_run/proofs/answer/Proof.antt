@@ -35,7 +35,10 @@ returns-2 : tie.Need-returns-2
 returns-2 c = search needs
 
 ask-requires : tie.Need-ask-requires
-ask-requires c κs = (sym (c .before .before .before .before .before .admit .ensures) ∙ c .before .before .before .enum-told .given .1, sym (c .before .before .admit2 .ensures) ∙ c .enum-told2 .given .1)
+ask-requires c κs = (
+  sym (c .before .before .before .before .before .admit .ensures) ∙ c .before .before .before .enum-told .given .1,
+  sym (c .before .before .admit2 .ensures) ∙ c .enum-told2 .given .1,
+)
 
 enum-told-3 : tie.Need-enum-told-3
 enum-told-3 c = search needs
@@ -53,7 +56,9 @@ returns-3 : tie.Need-returns-3
 returns-3 c = search needs
 
 print-pieces-requires : tie.Need-print-pieces-requires
-print-pieces-requires c κs = sym (c .before .before .before .before .before .before .before .before .admit .ensures) ∙ c .before .before .before .before .before .before .enum-told .given .1
+print-pieces-requires c κs =
+    sym (c .before .before .before .before .before .before .before .before .admit .ensures)
+    ∙ c .before .before .before .before .before .before .enum-told .given .1
 
 print-pieces-requires-2 : tie.Need-print-pieces-requires-2
 print-pieces-requires-2 c κs = sym (c .before .before .before .before .before .before .admit2 .ensures) ∙ c .before .before .before .before .enum-told2 .given .1

@@ -39,11 +39,20 @@ slice-aggregate-print-nets c = search needs
 print-nets-requires : tie.Need-print-nets-requires
 print-nets-requires c κs =
     let args = c .before .before .before .before .before .before .before .before .before .before .before .args in
-    let k = counts (args .degree) (args .knots .now) (args .mults .now) (args .coords .now) (args .weights .now) (c .before .before .before .before .before .before .before .before .before .before .before .pre) in
+    let k = counts (args .degree) (args .knots .now) (args .mults .now) (args .coords .now) (args .weights .now)
+    (c .before .before .before .before .before .before .before .before .before .before .before .pre) in
     let n = c .before .before .before .before .before .before .piece-count in
     let d = c .before .count in
-    let m : d .result ≤ 25 = omega (arith, d .ensures, k .most) in
-    (omega arith, n .ensures .2, omega (arith, laws.small (n .result) (d .result) (n .ensures .2) m, c .before .before .before .curve-pieces .kept .1 .1 .1 .1 .1 .1 .1 .0, c .before .before .before .before .before .net-room .ensures))
+    let m : d .result ≤ 25 = omega (arith, d .ensures, k .most) in (
+      omega arith,
+      n .ensures .2,
+      omega (
+        arith,
+        laws.small (n .result) (d .result) (n .ensures .2) m,
+        c .before .before .before .curve-pieces .kept .1 .1 .1 .1 .1 .1 .1 .0,
+        c .before .before .before .before .before .net-room .ensures,
+      ),
+    )
 
 returns : tie.Need-returns
 returns c = search needs

@@ -18,14 +18,18 @@ array-borrow-prefix-b : tie.Need-array-borrow-prefix-b
 array-borrow-prefix-b c = search needs
 
 slice-aggregate-bytes : tie.Need-slice-aggregate-bytes
-slice-aggregate-bytes c = sym (length-take-le (8 * length (c .before .before .before .args .out .now)) (c .before .room8000 .result) (omega (arith, c .before .room8000 .ensures)))
+slice-aggregate-bytes c =
+    sym (length-take-le (8 * length (c .before .before .before .args .out .now)) (c .before .room8000 .result)
+    (omega (arith, c .before .room8000 .ensures)))
 
 read-full-requires : tie.Need-read-full-requires
 read-full-requires c κs = search needs
 
 put-floats-requires : tie.Need-put-floats-requires
 put-floats-requires c κs =
-    let n = length-take-le (8 * length (c .before .before .before .before .before .before .before .before .before .args .out .now)) (c .before .before .before .before .before .before .before .room8000 .result) (omega (arith, c .before .before .before .before .before .before .before .room8000 .ensures)) in
+    let n = length-take-le (8 * length (c .before .before .before .before .before .before .before .before .before .args .out .now))
+    (c .before .before .before .before .before .before .before .room8000 .result)
+    (omega (arith, c .before .before .before .before .before .before .before .room8000 .ensures)) in
     (omega (arith, c .before .before .before .before .read-full .kept .1 .0), c .before .before .before .before .before .before .before .before .before .pre)
 
 same-length : tie.Need-same-length

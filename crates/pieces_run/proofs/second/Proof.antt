@@ -31,12 +31,14 @@ array-borrow-prefix-f c = search needs
 slice-aggregate-floats : tie.Need-slice-aggregate-floats
 slice-aggregate-floats c =
     let read-header = c .before .before .before .before .before .before .read-header in
-    sym (length-take-le (read-header .result .knots + read-header .result .coords + read-header .result .weights + 2) (c .before .float-room .result) (omega (arith, c .before .float-room .ensures, read-header .ensures)))
+    sym (length-take-le (read-header .result .knots + read-header .result .coords + read-header .result .weights + 2) (c .before .float-room .result)
+    (omega (arith, c .before .float-room .ensures, read-header .ensures)))
 
 read-floats-requires : tie.Need-read-floats-requires
 read-floats-requires c κs =
     let read-header = c .before .before .before .before .before .before .before .read-header in
-    let l = length-take-le (read-header .result .knots + read-header .result .coords + read-header .result .weights + 2) (c .before .before .float-room .result) (omega (arith, c .before .before .float-room .ensures, read-header .ensures)) in
+    let l = length-take-le (read-header .result .knots + read-header .result .coords + read-header .result .weights + 2)
+    (c .before .before .float-room .result) (omega (arith, c .before .before .float-room .ensures, read-header .ensures)) in
     omega (arith, read-header .ensures)
 
 returns-2 : tie.Need-returns-2
@@ -49,12 +51,20 @@ array-borrow-prefix-u : tie.Need-array-borrow-prefix-u
 array-borrow-prefix-u c = search needs
 
 slice-aggregate-mults : tie.Need-slice-aggregate-mults
-slice-aggregate-mults c = sym (length-take-le (c .before .before .before .before .before .before .before .before .before .before .before .before .before .read-header .result .mults) (c .before .mult-room .result) (omega (arith, c .before .mult-room .ensures, c .before .before .before .before .before .before .before .before .before .before .before .before .before .read-header .ensures)))
+slice-aggregate-mults c =
+    sym (length-take-le
+    (c .before .before .before .before .before .before .before .before .before .before .before .before .before .read-header .result .mults)
+    (c .before .mult-room .result) (omega (
+      arith,
+      c .before .mult-room .ensures,
+      c .before .before .before .before .before .before .before .before .before .before .before .before .before .read-header .ensures,
+    )))
 
 read-words-requires : tie.Need-read-words-requires
 read-words-requires c κs =
     let read-header = c .before .before .before .before .before .before .before .before .before .before .before .before .before .before .read-header in
-    let l = length-take-le (read-header .result .mults) (c .before .before .mult-room .result) (omega (arith, c .before .before .mult-room .ensures, read-header .ensures)) in
+    let l = length-take-le (read-header .result .mults) (c .before .before .mult-room .result)
+    (omega (arith, c .before .before .mult-room .ensures, read-header .ensures)) in
     omega (arith, read-header .ensures)
 
 returns-3 : tie.Need-returns-3
@@ -64,8 +74,11 @@ third-requires : tie.Need-third-requires
 third-requires c κs =
     let b = c .before .before .before .before .before .before .before .before .before .before .before .before in
     let read-header = b .before .before .before .before .before .before .before .before .read-header in
-    let l = length-take-le (read-header .result .knots + read-header .result .coords + read-header .result .weights + 2) (b .before .before .before .float-room .result) (omega (arith, b .before .before .before .float-room .ensures, read-header .ensures)) in
-    (b .before .before .before .before .before .before .before .before .before .before .before .pre, ((read-header .ensures .0, read-header .ensures .2, read-header .ensures .3, omega (arith, b .read-floats .kept .0))))
+    let l = length-take-le (read-header .result .knots + read-header .result .coords + read-header .result .weights + 2)
+    (b .before .before .before .float-room .result) (omega (arith, b .before .before .before .float-room .ensures, read-header .ensures)) in (
+      b .before .before .before .before .before .before .before .before .before .before .before .pre,
+      ((read-header .ensures .0, read-header .ensures .2, read-header .ensures .3, omega (arith, b .read-floats .kept .0))),
+    )
 
 returns-4 : tie.Need-returns-4
 returns-4 c = search needs

@@ -76,7 +76,9 @@ shared-slice-read-answer-2 c = search needs
 
 slice-aggregate-answer-2 : tie.Need-slice-aggregate-answer-2
 slice-aggregate-answer-2 c =
-    let args = c .before .before .before .before .before .before .before .before .before .before .before .before .before .before .before .before .before .before .before .args in
+    let args =
+    c .before .before .before .before .before .before .before .before .before .before .before .before .before .before .before .before .before .before .before .args
+    in
     sym (length-take-le (args .h2 .knots) (args .floats2 .now) (omega arith))
 
 mul-answer-5 : tie.Need-mul-answer-5

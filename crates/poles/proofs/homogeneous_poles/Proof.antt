@@ -12,7 +12,8 @@ use Rattle.poles.proofs.homogeneous_poles.Statement.{statement}
 use Rattle.poles.proofs.homogeneous_poles.Tie as tie
 
 abbrev Inv-loop : tie.InvT-loop
-Inv-loop coords weights n out₀ i₀ out i = (length out ≡ 4 * n) × (i ≤ n) × (take (4 * i) out ++ homogeneousPoles coords weights (n - i) i ≡ homogeneousPoles coords weights n 0)
+Inv-loop coords weights n out₀ i₀ out i =
+    (length out ≡ 4 * n) × (i ≤ n) × (take (4 * i) out ++ homogeneousPoles coords weights (n - i) i ≡ homogeneousPoles coords weights n 0)
 
 abbrev μ-loop : tie.MeasureT-loop
 μ-loop coords weights n out₀ i₀ out i = n - i
@@ -42,8 +43,13 @@ loop-again c =
     let m = c .before .before .put in (
       search needs,
       search needs,
-      loops.fill4-turn (homogeneousPoles (a .coords .now) (a .weights .now)) (λ k. (homogeneousOf (a .coords .now) (a .weights .now) k) .x) (λ k. (homogeneousOf (a .coords .now) (a .weights .now) k) .y) (λ k. (homogeneousOf (a .coords .now) (a .weights .now) k) .z) (λ k. (homogeneousOf (a .coords .now) (a .weights .now) k) .w) (λ n k. unfold homogeneousPoles in refl) (l .out) (m .last .0) (a .n) (l .i) (search needs) (omega arith)
-          (m .ensures ∙ ap (λ q. take (4 * l .i) (l .out) ++ (q .x ∷ q .y ∷ q .z ∷ q .w ∷ drop (4 * l .i + 4) (l .out))) (c .before .before .before .homogeneous .ensures)) ∙ l .inv .2,
+      loops.fill4-turn (homogeneousPoles (a .coords .now) (a .weights .now)) (λ k. (homogeneousOf (a .coords .now) (a .weights .now) k) .x)
+          (λ k. (homogeneousOf (a .coords .now) (a .weights .now) k) .y) (λ k. (homogeneousOf (a .coords .now) (a .weights .now) k) .z)
+          (λ k. (homogeneousOf (a .coords .now) (a .weights .now) k) .w) (λ n k. unfold homogeneousPoles in refl) (l .out) (m .last .0) (a .n) (l .i)
+          (search needs) (omega arith)
+          (m .ensures
+          ∙ ap (λ q. take (4 * l .i) (l .out) ++ (q .x ∷ q .y ∷ q .z ∷ q .w ∷ drop (4 * l .i + 4) (l .out)))
+          (c .before .before .before .homogeneous .ensures)) ∙ l .inv .2,
     )
 
 same-length : tie.Need-same-length Inv-loop μ-loop
@@ -52,7 +58,8 @@ same-length c = search needs
 returns : tie.Need-returns Inv-loop μ-loop
 returns c =
     let a = c .before .before .before .before .before .args in
-    loops.fill-done (homogeneousPoles (a .coords .now) (a .weights .now)) (λ k. unfold homogeneousPoles in refl) (c .before .loop .out) _ (a .n) (c .before .loop .i) (4 * c .before .loop .i) (search needs) (omega arith) (c .before .loop .inv .2)
+    loops.fill-done (homogeneousPoles (a .coords .now) (a .weights .now)) (λ k. unfold homogeneousPoles in refl) (c .before .loop .out) _ (a .n)
+    (c .before .loop .i) (4 * c .before .loop .i) (search needs) (omega arith) (c .before .loop .inv .2)
 
 pub homogeneous-poles-spec : {M : Type 1} → statement M
 homogeneous-poles-spec =

@@ -16,7 +16,8 @@ same-length c = search needs
 returns : tie.Need-returns
 returns c =
     let args = c .before .before .before .before .before .before .before .before .before .before .args in
-    counted-is (args .out .now) (args .at) (args .name .now) (args .n) (search needs) (search needs) (c .before .before .before .before .before .before .put-bytes .ensures) (c .before .before .put-decimal .ensures)
+    counted-is (args .out .now) (args .at) (args .name .now) (args .n) (search needs) (search needs)
+    (c .before .before .before .before .before .before .put-bytes .ensures) (c .before .before .put-decimal .ensures)
 
 pub put-count-spec : {M : Type 1} → statement M
 put-count-spec = tie.close (tie.spec put-bytes-requires put-decimal-requires same-length returns)

@@ -32,7 +32,10 @@ returns : tie.Need-returns
 returns c =
     let b = c .before .before .before .before .before .before .before .before .before .before .before .before in
     let args = b .before .before .before .before .before .before .before .before .before .before .before .args in
-    counts-are (args .out .now) (args .w) (args .c) (args .regions) (search needs) (b .before .before .before .before .before .before .before .before .put-word .ensures) (b .before .before .before .before .put-steps .ensures) (b .put-nodes .ensures) (c .before .before .before .before .before .before .before .put-count .ensures) (c .before .before .put-bytes .ensures)
+    counts-are (args .out .now) (args .w) (args .c) (args .regions) (search needs)
+    (b .before .before .before .before .before .before .before .before .put-word .ensures) (b .before .before .before .before .put-steps .ensures)
+    (b .put-nodes .ensures) (c .before .before .before .before .before .before .before .put-count .ensures)
+    (c .before .before .put-bytes .ensures)
 
 pub put-counts-spec : {M : Type 1} → statement M
 put-counts-spec =

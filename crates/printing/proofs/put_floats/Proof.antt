@@ -40,7 +40,8 @@ loop-again : tie.Need-loop-again Inv-loop μ-loop
 loop-again c =
     let args = c .before .before .before .before .before .before .before .before .before .args in
     let loop = c .before .before .before .before .before .before .loop in
-    let t = texts-turn (args .out .now) (args .at) (args .xs .now) (loop .i) (search needs) (search needs) (loop .inv .2) (loop .inv .3) (c .before .before .put-float .ensures) in
+    let t = texts-turn (args .out .now) (args .at) (args .xs .now) (loop .i) (search needs) (search needs) (loop .inv .2) (loop .inv .3)
+    (c .before .before .put-float .ensures) in
     (search needs, search needs, t .0, t .1)
 
 same-length : tie.Need-same-length Inv-loop μ-loop

@@ -36,8 +36,12 @@ same-length c = search needs
 
 returns : tie.Need-returns
 returns c =
-    let args = c .before .before .before .before .before .before .before .before .before .before .before .before .before .before .before .before .before .before .before .args in
-    nodes-are (args .out .now) (args .at) (args .c) (search needs) (c .before .before .before .before .before .before .before .before .before .before .before .before .before .before .put-count .ensures) (c .before .before .before .before .before .before .before .before .put-count2 .ensures) (c .before .before .put-count3 .ensures)
+    let args =
+    c .before .before .before .before .before .before .before .before .before .before .before .before .before .before .before .before .before .before .before .args
+    in
+    nodes-are (args .out .now) (args .at) (args .c) (search needs)
+    (c .before .before .before .before .before .before .before .before .before .before .before .before .before .before .put-count .ensures)
+    (c .before .before .before .before .before .before .before .before .put-count2 .ensures) (c .before .before .put-count3 .ensures)
 
 pub put-nodes-spec : {M : Type 1} → statement M
 put-nodes-spec =

@@ -28,7 +28,9 @@ same-length c = search needs
 returns : tie.Need-returns
 returns c =
     let args = c .before .before .before .before .before .before .before .before .before .before .before .before .before .before .before .before .args in
-    refusal-is (args .out .now) (args .number) (args .line) (search needs) (c .before .before .before .before .before .before .before .before .before .before .before .before .put-count .ensures) (c .before .before .before .before .before .before .before .put-count2 .ensures) (c .before .before .put-bytes .ensures)
+    refusal-is (args .out .now) (args .number) (args .line) (search needs)
+    (c .before .before .before .before .before .before .before .before .before .before .before .before .put-count .ensures)
+    (c .before .before .before .before .before .before .before .put-count2 .ensures) (c .before .before .put-bytes .ensures)
 
 pub put-refusal-spec : {M : Type 1} → statement M
 put-refusal-spec =

@@ -25,7 +25,9 @@ same-length c = search needs
 returns : tie.Need-returns
 returns c =
     let args = c .before .before .before .before .before .before .before .before .before .before .before .before .before .before .before .before .args in
-    region-is (args .out .now) (args .at) (args .region .now) (search needs) (search needs) (c .before .before .before .before .before .before .before .before .before .before .before .put-bytes .ensures) (c .before .before .before .before .before .before .before .put-floats .ensures) (c .before .before .put-bytes2 .ensures)
+    region-is (args .out .now) (args .at) (args .region .now) (search needs) (search needs)
+    (c .before .before .before .before .before .before .before .before .before .before .before .put-bytes .ensures)
+    (c .before .before .before .before .before .before .before .put-floats .ensures) (c .before .before .put-bytes2 .ensures)
 
 pub put-region-spec : {M : Type 1} → statement M
 put-region-spec =

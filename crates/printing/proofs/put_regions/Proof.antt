@@ -41,7 +41,10 @@ part-put-region-end : tie.Need-part-put-region-end Inv-loop μ-loop
 part-put-region-end c = search needs
 
 put-region-requires : tie.Need-put-region-requires Inv-loop μ-loop
-put-region-requires c κs = (lent-length (c .before .before .before .loop .k * 10) 10 (c .before .before .before .before .before .before .args .list .now) (search needs), search needs)
+put-region-requires c κs = (
+  lent-length (c .before .before .before .loop .k * 10) 10 (c .before .before .before .before .before .before .args .list .now) (search needs),
+  search needs,
+)
 
 add-k : tie.Need-add-k Inv-loop μ-loop
 add-k c = search needs
@@ -53,7 +56,8 @@ loop-again : tie.Need-loop-again Inv-loop μ-loop
 loop-again c =
     let args = c .before .before .before .before .before .before .before .before .before .args in
     let loop = c .before .before .before .before .before .before .loop in
-    let t = regions-turn (args .out .now) (args .at) (args .list .now) (loop .k) (args .n) (search needs) (search needs) (search needs) (loop .inv .2) (loop .inv .3) (c .before .before .put-region .ensures) in
+    let t = regions-turn (args .out .now) (args .at) (args .list .now) (loop .k) (args .n) (search needs) (search needs) (search needs) (loop .inv .2)
+    (loop .inv .3) (c .before .before .put-region .ensures) in
     (search needs, search needs, t .0, t .1)
 
 same-length : tie.Need-same-length Inv-loop μ-loop
@@ -62,7 +66,8 @@ same-length c = search needs
 returns : tie.Need-returns Inv-loop μ-loop
 returns c =
     let args = c .before .before .before .before .args in
-    regions-done (args .out .now) (args .at) (args .list .now) (c .before .loop .k) (args .n) (search needs) (search needs) (search needs) (c .before .loop .inv .2) (c .before .loop .inv .3)
+    regions-done (args .out .now) (args .at) (args .list .now) (c .before .loop .k) (args .n) (search needs) (search needs) (search needs)
+    (c .before .loop .inv .2) (c .before .loop .inv .3)
 
 pub put-regions-spec : {M : Type 1} → statement M
 put-regions-spec =

@@ -34,7 +34,9 @@ same-length c = search needs
 returns : tie.Need-returns
 returns c =
     let args = c .before .before .before .before .before .before .before .before .before .before .before .before .before .before .before .before .before .before .args in
-    steps-are (args .out .now) (args .at) (args .c) (search needs) (c .before .before .before .before .before .before .before .before .before .before .before .before .before .put-count .ensures) (c .before .before .before .before .before .before .before .before .put-count2 .ensures) (c .before .before .put-count3 .ensures)
+    steps-are (args .out .now) (args .at) (args .c) (search needs)
+    (c .before .before .before .before .before .before .before .before .before .before .before .before .before .put-count .ensures)
+    (c .before .before .before .before .before .before .before .before .put-count2 .ensures) (c .before .before .put-count3 .ensures)
 
 pub put-steps-spec : {M : Type 1} → statement M
 put-steps-spec =

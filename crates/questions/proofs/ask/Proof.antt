@@ -8,13 +8,15 @@ use Rattle.questions.proofs.ask.Tie as tie
 bounds-requires : tie.Need-bounds-requires
 bounds-requires c κs =
     let args = c .before .before .before .before .before .before .before .before .args in
-    let k = counts (args .degree1) (args .knots1 .now) (args .mults1 .now) (args .coords1 .now) (args .weights1 .now) (c .before .before .before .before .before .before .before .before .pre .0) in
+    let k = counts (args .degree1) (args .knots1 .now) (args .mults1 .now) (args .coords1 .now) (args .weights1 .now)
+    (c .before .before .before .before .before .before .before .before .pre .0) in
     (k .as-many, omega (arith, k .count), omega (arith, k .count, k .few-poles, k .most))
 
 bounds-requires-2 : tie.Need-bounds-requires-2
 bounds-requires-2 c κs =
     let args = c .before .before .before .before .before .before .before .before .before .args in
-    let k = counts (args .degree2) (args .knots2 .now) (args .mults2 .now) (args .coords2 .now) (args .weights2 .now) (c .before .before .before .before .before .before .before .before .before .pre .1) in
+    let k = counts (args .degree2) (args .knots2 .now) (args .mults2 .now) (args .coords2 .now) (args .weights2 .now)
+    (c .before .before .before .before .before .before .before .before .before .pre .1) in
     (k .as-many, omega (arith, k .count), omega (arith, k .count, k .few-poles, k .most))
 
 ask-within-requires : tie.Need-ask-within-requires

@@ -54,7 +54,8 @@ returns-5 : tie.Need-returns-5
 unfolding askWithin
 returns-5 c =
     simp (
-      sym (c .before .before .before .before .before .before .before .before .range-fits .ensures) ∙ not-false _ (c .before .before .before .before .before .before .before .if1 .left),
+      sym (c .before .before .before .before .before .before .before .before .range-fits .ensures)
+          ∙ not-false _ (c .before .before .before .before .before .before .before .if1 .left),
       sym (c .before .before .before .before .before .before .range-fits2 .ensures) ∙ not-false _ (c .before .before .before .before .before .if2 .left),
       sym (c .before .before .before .before .is-within .ensures) ∙ not-false _ (c .before .before .before .if3 .left),
       le-ltb _ _ (c .before .before .if4 .left),

@@ -28,7 +28,8 @@ slice-aggregate-all-parted c =
 all-parted-requires : tie.Need-all-parted-requires
 all-parted-requires c κs =
     let m = c .before .before .breaks in
-    let n = length-take-le (m .result) (m .last .1 .1 .1 .0) (omega (arith, m .kept .1 .1 .1 .0, c .before .before .before .before .break-room .ensures, m .ensures .4)) in
+    let n = length-take-le (m .result) (m .last .1 .1 .1 .0)
+    (omega (arith, m .kept .1 .1 .1 .0, c .before .before .before .before .break-room .ensures, m .ensures .4)) in
     omega (arith, m .ensures .3)
 
 returns : tie.Need-returns

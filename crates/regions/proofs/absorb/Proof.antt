@@ -16,7 +16,16 @@ sweep-requires : tie.Need-sweep-requires Inv-loop μ-loop
 sweep-requires c κs = search needs
 
 loop-holds : tie.Need-loop-holds Inv-loop μ-loop
-loop-holds c = record { same = refl; fewer = omega arith; kept = search needs; fuel = c .before .before .before .before .before .args .n; enough = omega arith; follows = refl; rest = refl }
+loop-holds c =
+    record {
+      same = refl;
+      fewer = omega arith;
+      kept = search needs;
+      fuel = c .before .before .before .before .before .args .n;
+      enough = omega arith;
+      follows = refl;
+      rest = refl;
+    }
 
 sweep-requires-2 : tie.Need-sweep-requires-2 Inv-loop μ-loop
 sweep-requires-2 c κs = search needs
@@ -27,7 +36,8 @@ loop-less c = search needs
 loop-again : tie.Need-loop-again Inv-loop μ-loop
 loop-again c =
     let w = c .before .before .sweep2 in
-    passes-turn _ _ _ _ _ _ (c .before .before .before .before .before .before .loop .inv) _ (w .result) (search needs) (search needs) (w .ensures .0 .0) (w .ensures .0 .1) (w .ensures .0 .2) (w .ensures .1 .0) (w .ensures .1 .1)
+    passes-turn _ _ _ _ _ _ (c .before .before .before .before .before .before .loop .inv) _ (w .result) (search needs) (search needs)
+    (w .ensures .0 .0) (w .ensures .0 .1) (w .ensures .0 .2) (w .ensures .1 .0) (w .ensures .1 .1)
 
 store-requires : tie.Need-store-requires Inv-loop μ-loop
 store-requires c κs = search needs
@@ -41,7 +51,8 @@ same-length c = search needs
 returns : tie.Need-returns Inv-loop μ-loop
 returns c =
     let w = c .before .before .before .before .before .before .before .before .before .sweep in
-    absorbed _ _ _ _ _ _ _ _ _ (search needs) (search needs) (w .ensures .0 .0) (w .ensures .0 .1) (w .ensures .1 .0) (w .ensures .1 .1) (c .before .before .before .before .before .before .loop .inv) (search needs) (c .before .before .store .ensures)
+    absorbed _ _ _ _ _ _ _ _ _ (search needs) (search needs) (w .ensures .0 .0) (w .ensures .0 .1) (w .ensures .1 .0) (w .ensures .1 .1)
+    (c .before .before .before .before .before .before .loop .inv) (search needs) (c .before .before .store .ensures)
 
 pub absorb-spec : {M : Type 1} → statement M
 absorb-spec =

@@ -31,7 +31,8 @@ loop-again : tie.Need-loop-again Inv-loop μ-loop
 loop-again c =
     let w = c .before .before .absorb in
     let x = c .before .before .before .load in
-    gather-turn _ _ _ _ _ _ (c .before .before .before .before .before .before .loop .inv) _ (w .result) (x .result) (search needs) (search needs) (x .ensures) (w .ensures .0 .1) (w .ensures .1 .0) (w .ensures .1 .1)
+    gather-turn _ _ _ _ _ _ (c .before .before .before .before .before .before .loop .inv) _ (w .result) (x .result) (search needs) (search needs)
+    (x .ensures) (w .ensures .0 .1) (w .ensures .1 .0) (w .ensures .1 .1)
 
 same-length : tie.Need-same-length Inv-loop μ-loop
 same-length c = search needs

@@ -52,7 +52,9 @@ loop-less c = search needs
 loop-again : tie.Need-loop-again Inv-loop μ-loop
 loop-again c =
     let y = c .before .before .before .load2 in
-    insert-turn _ _ _ _ _ _ (c .before .before .before .before .before .before .before .before .before .before .loop .inv) (search needs) _ (y .result) (c .before .before .before .before .before .before .before .before .before .loop-test .taken) (c .before .before .before .before .before .before .if1 .taken) (y .ensures) (c .before .before .store .ensures)
+    insert-turn _ _ _ _ _ _ (c .before .before .before .before .before .before .before .before .before .before .loop .inv) (search needs) _
+    (y .result) (c .before .before .before .before .before .before .before .before .before .loop-test .taken)
+    (c .before .before .before .before .before .before .if1 .taken) (y .ensures) (c .before .before .store .ensures)
 
 store-requires-2 : tie.Need-store-requires-2 Inv-loop μ-loop
 store-requires-2 c κs = search needs
@@ -63,7 +65,8 @@ same-length c = search needs
 returns : tie.Need-returns Inv-loop μ-loop
 returns c =
     let p = c .before .before .before .before .before .loop .inv in
-    insert-done _ _ _ _ _ _ p (search needs) _ _ (⊎-elim (λ w. stop-here _ _ _ _ _ _ p (search needs) (w .0 .taken) (w .3 .left)) (λ w. stop-end _ _ _ _ _ _ p (search needs) (w .left)) (c .before .before .before .before .loop-test .came))
+    insert-done _ _ _ _ _ _ p (search needs) _ _ (⊎-elim (λ w. stop-here _ _ _ _ _ _ p (search needs) (w .0 .taken) (w .3 .left))
+    (λ w. stop-end _ _ _ _ _ _ p (search needs) (w .left)) (c .before .before .before .before .loop-test .came))
     (c .before .before .store2 .ensures) (c .before .before .before .before .before .before .load .ensures)
 
 pub insert-spec : {M : Type 1} → statement M

@@ -32,7 +32,8 @@ loop-again : tie.Need-loop-again Inv-loop μ-loop
 loop-again c =
     let w = c .before .before .sweep-one in
     let x = c .before .before .before .load in
-    pass-turn _ _ _ _ _ _ (c .before .before .before .before .before .before .before .loop .inv) _ (w .result) (x .result) (search needs) (search needs) (x .ensures) (w .ensures .0 .0) (w .ensures .0 .1) (w .ensures .1)
+    pass-turn _ _ _ _ _ _ (c .before .before .before .before .before .before .before .loop .inv) _ (w .result) (x .result) (search needs)
+    (search needs) (x .ensures) (w .ensures .0 .0) (w .ensures .0 .1) (w .ensures .1)
 
 same-length : tie.Need-same-length Inv-loop μ-loop
 same-length c = search needs

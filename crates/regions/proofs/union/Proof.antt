@@ -35,7 +35,12 @@ max-requires-5 : tie.Need-max-requires-5
 max-requires-5 c κs = search needs
 
 returns : tie.Need-returns
-returns c = united _ _ (c .before .before .before .before .before .before .before .before .before .min .ensures) (c .before .before .before .before .before .before .before .before .max .ensures) (c .before .before .before .before .before .before .before .min2 .ensures) (c .before .before .before .before .before .before .max2 .ensures) (c .before .before .before .before .before .min3 .ensures) (c .before .before .before .before .min4 .ensures) (c .before .before .before .min5 .ensures) (c .before .before .max3 .ensures) (c .before .max4 .ensures) (c .max5 .ensures)
+returns c =
+    united _ _ (c .before .before .before .before .before .before .before .before .before .min .ensures)
+    (c .before .before .before .before .before .before .before .before .max .ensures)
+    (c .before .before .before .before .before .before .before .min2 .ensures) (c .before .before .before .before .before .before .max2 .ensures)
+    (c .before .before .before .before .before .min3 .ensures) (c .before .before .before .before .min4 .ensures)
+    (c .before .before .before .min5 .ensures) (c .before .before .max3 .ensures) (c .before .max4 .ensures) (c .max5 .ensures)
 
 pub union-spec : {M : Type 1} → statement M
 union-spec =

@@ -13,8 +13,13 @@ sub-t6 c = search needs
 
 returns : tie.Need-returns
 returns c =
-    let h = c .before .shifted in
-    (h .ensures .1, h .ensures .2, omega arith, subnormal-value (c .before .before .before .args .b) (h .result .m) (h .result .by) (c .before .before .if1 .taken) (h .ensures .0) (h .ensures .3))
+    let h = c .before .shifted in (
+      h .ensures .1,
+      h .ensures .2,
+      omega arith,
+      subnormal-value (c .before .before .before .args .b) (h .result .m) (h .result .by) (c .before .before .if1 .taken) (h .ensures .0)
+          (h .ensures .3),
+    )
 
 add-t7 : tie.Need-add-t7
 add-t7 c = search needs

@@ -37,13 +37,21 @@ loop-less c = search needs
 loop-again : tie.Need-loop-again Inv-loop μ-loop
 loop-again c =
     let l = c .before .before .loop in
-    let e = c .digit .ensures in
-    (search needs, turn (c .before .before .before .args .m) (l .r .root * l .r .root + l .r .rem) _ (l .top) (l .i) (l .inv .1) (e .0), e .1, fewer (l .r .root) (c .digit .result .root) (l .i) (l .inv .3) (e .2), omega arith)
+    let e = c .digit .ensures in (
+      search needs,
+      turn (c .before .before .before .args .m) (l .r .root * l .r .root + l .r .rem) _ (l .top) (l .i) (l .inv .1) (e .0),
+      e .1,
+      fewer (l .r .root) (c .digit .result .root) (l .i) (l .inv .3) (e .2),
+      omega arith,
+    )
 
 returns : tie.Need-returns Inv-loop μ-loop
 returns c =
-    let l = c .before .loop in
-    (done (c .before .before .args .m) (l .r .root * l .r .root + l .r .rem) (l .top) (l .i) (l .inv .1) (l .inv .4) (omega arith), l .inv .2, small (l .r .root) (l .i) (l .inv .3) (l .inv .0))
+    let l = c .before .loop in (
+      done (c .before .before .args .m) (l .r .root * l .r .root + l .r .rem) (l .top) (l .i) (l .inv .1) (l .inv .4) (omega arith),
+      l .inv .2,
+      small (l .r .root) (l .i) (l .inv .3) (l .inv .0),
+    )
 
 pub digits-spec : {M : Type 1} → statement M
 digits-spec =

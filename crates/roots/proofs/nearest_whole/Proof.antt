@@ -30,7 +30,8 @@ is-nearest-requires c κs = search needs
 returns-2 : tie.Need-returns-2
 returns-2 c =
     let a = c .before .before .as-candidate in
-    tested (c .before .before .before .before .before .before .before .before .args .m * 2 ^ 52) (a .result .q) (a .result .over) (a .ensures .1) (sym (c .before .is-nearest .ensures) ∙ c .if3 .taken)
+    tested (c .before .before .before .before .before .before .before .before .args .m * 2 ^ 52) (a .result .q) (a .result .over) (a .ensures .1)
+    (sym (c .before .is-nearest .ensures) ∙ c .if3 .taken)
 
 nudged-requires : tie.Need-nudged-requires
 nudged-requires c κs = search needs
@@ -41,7 +42,9 @@ is-nearest-requires-2 c κs = search needs
 returns-3 : tie.Need-returns-3
 returns-3 c =
     let e = c .before .before .nudged in
-    tested (c .before .before .before .before .before .before .before .before .before .before .before .args .m * 2 ^ 52) (e .result .q) (e .result .over) (e .ensures .0 ∙ c .before .before .before .before .before .as-candidate .ensures .1) (sym (c .before .is-nearest2 .ensures) ∙ c .if4 .taken)
+    tested (c .before .before .before .before .before .before .before .before .before .before .before .args .m * 2 ^ 52) (e .result .q)
+    (e .result .over) (e .ensures .0 ∙ c .before .before .before .before .before .as-candidate .ensures .1)
+    (sym (c .before .is-nearest2 .ensures) ∙ c .if4 .taken)
 
 nearest-by-digits-requires-2 : tie.Need-nearest-by-digits-requires-2
 nearest-by-digits-requires-2 c κs = search needs

@@ -35,7 +35,12 @@ nearest-whole-requires : tie.Need-nearest-whole-requires
 nearest-whole-requires c κs = search needs
 
 add-result-2 : tie.Need-add-result-2
-add-result-2 c = omega (arith, range (c .before .evened .result) (c .nearest-whole .result) (c .before .evened .ensures .0) (c .before .evened .ensures .1) (c .nearest-whole .ensures))
+add-result-2 c =
+    omega (
+      arith,
+      range (c .before .evened .result) (c .nearest-whole .result) (c .before .evened .ensures .0) (c .before .evened .ensures .1)
+          (c .nearest-whole .ensures),
+    )
 
 returns : tie.Need-returns
 returns c =

@@ -19,7 +19,9 @@ sqrt-requires : tie.Need-sqrt-requires
 sqrt-requires c κs = search needs
 
 returns-2 : tie.Need-returns-2
-returns-2 c = quiet (c .before .sqrt .result) (differs-from-itself (c .before .sqrt .result) (subst T (sym (c .if2 .taken)) tt)) ∙ ap (toBits binary64) (c .before .sqrt .ensures)
+returns-2 c =
+    quiet (c .before .sqrt .result) (differs-from-itself (c .before .sqrt .result) (subst T (sym (c .if2 .taken)) tt))
+    ∙ ap (toBits binary64) (c .before .sqrt .ensures)
 
 float-to-bits-result : tie.Need-float-to-bits-result
 float-to-bits-result c = same-not-nan (c .before .sqrt .result) (c .if2 .left)

@@ -38,8 +38,11 @@ returns c =
     let pre = c .before .before .before .before .before .before .before .before .before .before .before .before .before .pre in
     let R = pre .0 in
     let u = memory (args .nets1 .now) (args .nets2 .now) (args .ranges .now) (args .depths .now) (args .raw .now) in
-    let v = ap (λ (v : Verdict). actOn geometry (suc (args .k)) v (args .st) u) (sym (c .before .before .before .before .before .before .enum-told3 .given .1)) in
-    (too-deep-is (args .st) u (args .k) (args .depth) (args .a) (args .b) (pre .1 .0) (pre .1 .1) _ (pre .1 .2) (c .before .before .before .before .before .if1 .taken) (c .before .before .give-up2 .ensures) ∙ v, (omega (arith, R .closed, R .top), R .steps))
+    let v = ap (λ (v : Verdict). actOn geometry (suc (args .k)) v (args .st) u) (sym (c .before .before .before .before .before .before .enum-told3 .given .1)) in (
+      too-deep-is (args .st) u (args .k) (args .depth) (args .a) (args .b) (pre .1 .0) (pre .1 .1) _ (pre .1 .2)
+          (c .before .before .before .before .before .if1 .taken) (c .before .before .give-up2 .ensures) ∙ v,
+      (omega (arith, R .closed, R .top), R .steps),
+    )
 
 returns-2 : tie.Need-returns-2
 returns-2 c =
@@ -47,8 +50,11 @@ returns-2 c =
     let pre = c .before .before .before .before .before .before .before .before .before .before .pre in
     let R = pre .0 in
     let u = memory (args .nets1 .now) (args .nets2 .now) (args .ranges .now) (args .depths .now) (args .raw .now) in
-    let v = ap (λ (v : Verdict). actOn geometry (suc (args .k)) v (args .st) u) (sym (c .before .before .before .enum-told3 .given .1)) in
-    (stopped-is (args .st) u (args .k) (args .depth) (args .a) (args .b) (pre .1 .0) (pre .1 .1) (pre .1 .2) (c .before .before .if1 .left) (c .if2 .taken) ∙ v, (c .if2 .taken, R .steps))
+    let v = ap (λ (v : Verdict). actOn geometry (suc (args .k)) v (args .st) u) (sym (c .before .before .before .enum-told3 .given .1)) in (
+      stopped-is (args .st) u (args .k) (args .depth) (args .a) (args .b) (pre .1 .0) (pre .1 .1) (pre .1 .2) (c .before .before .if1 .left)
+          (c .if2 .taken) ∙ v,
+      (c .if2 .taken, R .steps),
+    )
 
 halve-requires : tie.Need-halve-requires
 halve-requires c κs =
@@ -78,8 +84,10 @@ returns-4 c =
     let pre = c .before .before .before .before .before .before .before .before .before .before .before .before .pre in
     let R = pre .0 in
     let u = memory (args .nets1 .now) (args .nets2 .now) (args .ranges .now) (args .depths .now) (args .raw .now) in
-    let v = ap (λ (v : Verdict). actOn geometry (suc (args .k)) v (args .st) u) (sym (c .before .before .before .before .before .enum-told2 .given .1)) in
-    (unseparated-is (args .st) u (args .k) (args .depth) (args .a) (args .b) (pre .1 .0) (pre .1 .1) _ (c .before .before .give-up .ensures) ∙ v, (omega (arith, R .closed, R .top), R .steps))
+    let v = ap (λ (v : Verdict). actOn geometry (suc (args .k)) v (args .st) u) (sym (c .before .before .before .before .before .enum-told2 .given .1)) in (
+      unseparated-is (args .st) u (args .k) (args .depth) (args .a) (args .b) (pre .1 .0) (pre .1 .1) _ (c .before .before .give-up .ensures) ∙ v,
+      (omega (arith, R .closed, R .top), R .steps),
+    )
 
 same-length-5 : tie.Need-same-length-5
 same-length-5 c = search needs
@@ -105,7 +113,8 @@ returns-5 c =
     let some = b .if2 .left in
     let one : 1 ≤ args .st .unspent = search needs in
     let h = c .before .before .before .before .before .before .before .before .halve .ensures in (
-      halved-is (args .st) u (args .k) (args .depth) (args .a) (args .b) (pre .1 .0) (pre .1 .1) _ _ _ _ (pre .1 .2) shallow one (R .nets1) (R .nets2) (h .0) (h .1) (h .2) (h .3) ∙ v,
+      halved-is (args .st) u (args .k) (args .depth) (args .a) (args .b) (pre .1 .0) (pre .1 .1) _ _ _ _ (pre .1 .2) shallow one (R .nets1) (R .nets2)
+          (h .0) (h .1) (h .2) (h .3) ∙ v,
       (one, omega (arith, R .spent, one), R .steps, R .above shallow .few),
     )
 

@@ -60,17 +60,28 @@ net-of-requires-2 c κs =
     accepted-room (args .st) u _ _ A (search needs) (search needs) .nets2
 
 measure-requires-2 : tie.Need-measure-requires-2
-measure-requires-2 c κs = c .before .before .before .before .before .before .before .before .before .before .before .before .before .before .before .before .before .before .before .before .before .before .before .before .before .before .pre .1
+measure-requires-2 c κs =
+    c .before .before .before .before .before .before .before .before .before .before .before .before .before .before .before .before .before .before .before .before .before .before .before .before .before .before .pre .1
 
 slice-reshare-prefix-measured-box : tie.Need-slice-reshare-prefix-measured-box
 slice-reshare-prefix-measured-box c =
     let m = c .before .before .before .before .before .before .before .before .before .before .measure in
-    omega (arith, m .ensures .0 .1, m .kept, c .before .before .before .before .before .before .before .before .before .before .before .before .before .before .before .before .before .before .before .before .before .before .before .before .before .before .before .before .before .pre .0)
+    omega (
+      arith,
+      m .ensures .0 .1,
+      m .kept,
+      c .before .before .before .before .before .before .before .before .before .before .before .before .before .before .before .before .before .before .before .before .before .before .before .before .before .before .before .before .before .pre .0,
+    )
 
 slice-aggregate-measured-box : tie.Need-slice-aggregate-measured-box
 slice-aggregate-measured-box c =
     let m = c .before .before .before .before .before .before .before .before .before .before .before .measure in
-    sym (length-take-le (m .result) (m .last .1 .0) (omega (arith, m .ensures .0 .1, m .kept, c .before .before .before .before .before .before .before .before .before .before .before .before .before .before .before .before .before .before .before .before .before .before .before .before .before .before .before .before .before .before .pre .0)))
+    sym (length-take-le (m .result) (m .last .1 .0) (omega (
+      arith,
+      m .ensures .0 .1,
+      m .kept,
+      c .before .before .before .before .before .before .before .before .before .before .before .before .before .before .before .before .before .before .before .before .before .before .before .before .before .before .before .before .before .before .pre .0,
+    )))
 
 measured-box-requires : tie.Need-measured-box-requires
 measured-box-requires c κs = search needs
@@ -78,12 +89,22 @@ measured-box-requires c κs = search needs
 slice-reshare-prefix-measured-box-2 : tie.Need-slice-reshare-prefix-measured-box-2
 slice-reshare-prefix-measured-box-2 c =
     let m = c .before .before .before .before .measure2 in
-    omega (arith, m .ensures .0 .1, m .kept, c .before .before .before .before .before .before .before .before .before .before .before .before .before .before .before .before .before .before .before .before .before .before .before .before .before .before .before .before .before .before .before .pre .1)
+    omega (
+      arith,
+      m .ensures .0 .1,
+      m .kept,
+      c .before .before .before .before .before .before .before .before .before .before .before .before .before .before .before .before .before .before .before .before .before .before .before .before .before .before .before .before .before .before .before .pre .1,
+    )
 
 slice-aggregate-measured-box-2 : tie.Need-slice-aggregate-measured-box-2
 slice-aggregate-measured-box-2 c =
     let m = c .before .before .before .before .before .measure2 in
-    sym (length-take-le (m .result) (m .last .1 .0) (omega (arith, m .ensures .0 .1, m .kept, c .before .before .before .before .before .before .before .before .before .before .before .before .before .before .before .before .before .before .before .before .before .before .before .before .before .before .before .before .before .before .before .before .pre .1)))
+    sym (length-take-le (m .result) (m .last .1 .0) (omega (
+      arith,
+      m .ensures .0 .1,
+      m .kept,
+      c .before .before .before .before .before .before .before .before .before .before .before .before .before .before .before .before .before .before .before .before .before .before .before .before .before .before .before .before .before .before .before .before .pre .1,
+    )))
 
 measured-box-requires-2 : tie.Need-measured-box-requires-2
 measured-box-requires-2 c κs = search needs
@@ -91,22 +112,42 @@ measured-box-requires-2 c κs = search needs
 slice-reshare-prefix-judge-measured : tie.Need-slice-reshare-prefix-judge-measured
 slice-reshare-prefix-judge-measured c =
     let m = c .before .before .before .before .before .before .before .before .before .before .before .before .before .before .measure in
-    omega (arith, m .ensures .0 .1, m .kept, c .before .before .before .before .before .before .before .before .before .before .before .before .before .before .before .before .before .before .before .before .before .before .before .before .before .before .before .before .before .before .before .before .before .pre .0)
+    omega (
+      arith,
+      m .ensures .0 .1,
+      m .kept,
+      c .before .before .before .before .before .before .before .before .before .before .before .before .before .before .before .before .before .before .before .before .before .before .before .before .before .before .before .before .before .before .before .before .before .pre .0,
+    )
 
 slice-aggregate-judge-measured : tie.Need-slice-aggregate-judge-measured
 slice-aggregate-judge-measured c =
     let m = c .before .before .before .before .before .before .before .before .before .before .before .before .before .before .before .measure in
-    sym (length-take-le (m .result) (m .last .1 .0) (omega (arith, m .ensures .0 .1, m .kept, c .before .before .before .before .before .before .before .before .before .before .before .before .before .before .before .before .before .before .before .before .before .before .before .before .before .before .before .before .before .before .before .before .before .before .pre .0)))
+    sym (length-take-le (m .result) (m .last .1 .0) (omega (
+      arith,
+      m .ensures .0 .1,
+      m .kept,
+      c .before .before .before .before .before .before .before .before .before .before .before .before .before .before .before .before .before .before .before .before .before .before .before .before .before .before .before .before .before .before .before .before .before .before .pre .0,
+    )))
 
 slice-reshare-prefix-judge-measured-2 : tie.Need-slice-reshare-prefix-judge-measured-2
 slice-reshare-prefix-judge-measured-2 c =
     let m = c .before .before .before .before .before .before .before .measure2 in
-    omega (arith, m .ensures .0 .1, m .kept, c .before .before .before .before .before .before .before .before .before .before .before .before .before .before .before .before .before .before .before .before .before .before .before .before .before .before .before .before .before .before .before .before .before .before .pre .1)
+    omega (
+      arith,
+      m .ensures .0 .1,
+      m .kept,
+      c .before .before .before .before .before .before .before .before .before .before .before .before .before .before .before .before .before .before .before .before .before .before .before .before .before .before .before .before .before .before .before .before .before .before .pre .1,
+    )
 
 slice-aggregate-judge-measured-2 : tie.Need-slice-aggregate-judge-measured-2
 slice-aggregate-judge-measured-2 c =
     let m = c .before .before .before .before .before .before .before .before .measure2 in
-    sym (length-take-le (m .result) (m .last .1 .0) (omega (arith, m .ensures .0 .1, m .kept, c .before .before .before .before .before .before .before .before .before .before .before .before .before .before .before .before .before .before .before .before .before .before .before .before .before .before .before .before .before .before .before .before .before .before .before .pre .1)))
+    sym (length-take-le (m .result) (m .last .1 .0) (omega (
+      arith,
+      m .ensures .0 .1,
+      m .kept,
+      c .before .before .before .before .before .before .before .before .before .before .before .before .before .before .before .before .before .before .before .before .before .before .before .before .before .before .before .before .before .before .before .before .before .before .before .pre .1,
+    )))
 
 judge-measured-requires : tie.Need-judge-measured-requires
 judge-measured-requires c κs = search needs
@@ -122,13 +163,16 @@ advance-requires c κs =
     let q = c .before .before .before .before .before .before .before .before .measured-box2 in
     let m = b .before .before .before .before .before .before .before .before .measure in
     let n = b .measure2 in
-    let J = judged-is (args .st .gap) _ _ (take (m .result) (m .last .1 .0)) (take (n .result) (n .last .1 .0)) (p .result) (q .result) (c .before .before .before .before .before .judge-measured .result)
+    let J = judged-is (args .st .gap) _ _ (take (m .result) (m .last .1 .0)) (take (n .result) (n .last .1 .0)) (p .result) (q .result)
+    (c .before .before .before .before .before .judge-measured .result)
     (seen _ _ (m .last .1 .0) (m .result) (m .ensures .0 .0) (m .ensures .1)) (seen _ _ (n .last .1 .0) (n .result) (n .ensures .0 .0) (n .ensures .1))
     (p .ensures) (q .ensures) (c .before .before .before .before .before .judge-measured .ensures) in
     let e = b .before .before .before .before .before .before .before .before .before .before .net-of .ensures .0 in
     let f = b .before .before .net-of2 .ensures .0 in
-    let bounds = b .before .before .before .before .before .before .before .before .before .before .before .struct-known .given in
-    (accepted-room (args .st) u _ _ A (omega (arith, bounds)) (omega (arith, bounds)), (ap (λ (o : Judged). o .a) J ∙ ap boxOf e, ap (λ (o : Judged). o .b) J ∙ ap boxOf f, accepted-depth (args .st) u _ _ A))
+    let bounds = b .before .before .before .before .before .before .before .before .before .before .before .struct-known .given in (
+      accepted-room (args .st) u _ _ A (omega (arith, bounds)) (omega (arith, bounds)),
+      (ap (λ (o : Judged). o .a) J ∙ ap boxOf e, ap (λ (o : Judged). o .b) J ∙ ap boxOf f, accepted-depth (args .st) u _ _ A),
+    )
 
 moved-requires : tie.Need-moved-requires
 moved-requires c κs = search needs
@@ -167,15 +211,19 @@ same-length-7 : tie.Need-same-length-7
 same-length-7 c = search needs
 
 same-length-8 : tie.Need-same-length-8
-same-length-8 c = c .before .before .before .before .before .before .before .before .before .before .before .before .before .before .before .before .before .before .before .before .before .before .before .before .before .before .before .before .before .before .before .before .before .before .measure .kept .1 .0
+same-length-8 c =
+    c .before .before .before .before .before .before .before .before .before .before .before .before .before .before .before .before .before .before .before .before .before .before .before .before .before .before .before .before .before .before .before .before .before .before .measure .kept .1 .0
 
 same-length-9 : tie.Need-same-length-9
-same-length-9 c = c .before .before .before .before .before .before .before .before .before .before .before .before .before .before .before .before .before .before .before .before .before .before .before .before .before .before .measure2 .kept .1 .0
+same-length-9 c =
+    c .before .before .before .before .before .before .before .before .before .before .before .before .before .before .before .before .before .before .before .before .before .before .before .before .before .before .measure2 .kept .1 .0
 
 returns-3 : tie.Need-returns-3
 returns-3 c =
     let b = c .before .before .before .before .before .before .before .before .before .before .before .before .before .before .before .before .before in
-    let m = b .before .before .before .before .before .before .before .before .before .before .before .before .before .before .before .before .before .before .before .before .before .before .before .before in
+    let m =
+    b .before .before .before .before .before .before .before .before .before .before .before .before .before .before .before .before .before .before .before .before .before .before .before .before
+    in
     let args = m .before .before .before .before .before .before .before .before .before .before .before .before .args in
     let u = memory (args .nets1 .now) (args .nets2 .now) (args .ranges .now) (args .depths .now) (args .raw .now) in
     let A = accepted (args .st) u _ _ _ (m .before .before .before .before .has-room .ensures) (sym (m .top .given .1) ∙ m .before .before .top-node .ensures) in
@@ -186,11 +234,14 @@ returns-3 c =
     let J = judged-is (args .st .gap) _ _ (take (m .result) (m .last .1 .0)) (take (n .result) (n .last .1 .0)) (p .result) (q .result) (b .judge-measured .result)
     (seen _ _ (m .last .1 .0) (m .result) (m .ensures .0 .0) (m .ensures .1)) (seen _ _ (n .last .1 .0) (n .result) (n .ensures .0 .0) (n .ensures .1))
     (p .ensures) (q .ensures) (b .judge-measured .ensures) in
-    let e = b .before .before .before .before .before .before .before .before .before .before .before .before .before .before .before .before .before .before .before .net-of .ensures .0 in
+    let e =
+    b .before .before .before .before .before .before .before .before .before .before .before .before .before .before .before .before .before .before .before .net-of .ensures .0
+    in
     let f = b .before .before .before .before .before .before .before .before .before .before .before .net-of2 .ensures .0 in
     let v = b .judge-measured .result in
     own-step-accepted geometry (args .st) u _ v _ _ A (ap (λ (o : Judged). o .verdict) J ∙ (λ i. verdictOf (args .st .gap) (e i) (f i)))
-    (step-accepted geometry (args .st) u v _ _ _ _ A (c .moved .ensures) (c .before .before .before .before .before .before .before .before .before .before .before .advance .ensures .0))
+    (step-accepted geometry (args .st) u v _ _ _ _ A (c .moved .ensures)
+    (c .before .before .before .before .before .before .before .before .before .before .before .advance .ensures .0))
 
 pub own-step-in-spec : {M : Type 1} → statement M
 own-step-in-spec =

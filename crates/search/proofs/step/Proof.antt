@@ -61,8 +61,14 @@ advance-requires c κs =
     let u = memory (args .nets1 .now) (args .nets2 .now) (args .ranges .now) (args .depths .now) (args .raw .now) in
     let A = accepted (args .st) u _ _ _ (m .before .before .before .before .has-room .ensures) (sym (m .top .given .1) ∙ m .before .before .top-node .ensures) in
     let b = c .before .before .before .before .before in
-    let a = b .before .before .before .before .before in
-    (accepted-room (args .st) u _ _ A (search needs) (search needs), (a .net-box .ensures ∙ ap boxOf (a .before .net-of .ensures .0), b .net-box2 .ensures ∙ ap boxOf (b .before .net-of2 .ensures .0), accepted-depth (args .st) u _ _ A))
+    let a = b .before .before .before .before .before in (
+      accepted-room (args .st) u _ _ A (search needs) (search needs),
+      (
+        a .net-box .ensures ∙ ap boxOf (a .before .net-of .ensures .0),
+        b .net-box2 .ensures ∙ ap boxOf (b .before .net-of2 .ensures .0),
+        accepted-depth (args .st) u _ _ A,
+      ),
+    )
 
 moved-requires : tie.Need-moved-requires
 moved-requires c κs = search needs
@@ -83,7 +89,8 @@ returns-2 : tie.Need-returns-2
 returns-2 c =
     let args = c .before .before .before .before .before .before .before .before .before .before .args in
     let u = memory (args .nets1 .now) (args .nets2 .now) (args .ranges .now) (args .depths .now) (args .raw .now) in
-    step-refused geometry (args .st) u (args .v) _ (c .before .before .before .before .has-room .ensures) (sym (c .enum-told2 .given .1) ∙ c .before .before .top-node .ensures)
+    step-refused geometry (args .st) u (args .v) _ (c .before .before .before .before .has-room .ensures)
+    (sym (c .enum-told2 .given .1) ∙ c .before .before .top-node .ensures)
 
 same-length-3 : tie.Need-same-length-3
 same-length-3 c = search needs
@@ -102,11 +109,14 @@ same-length-7 c = search needs
 
 returns-3 : tie.Need-returns-3
 returns-3 c =
-    let m = c .before .before .before .before .before .before .before .before .before .before .before .before .before .before .before .before .before .before .before .before .before .before .before .before .before .before .before .before in
+    let m =
+    c .before .before .before .before .before .before .before .before .before .before .before .before .before .before .before .before .before .before .before .before .before .before .before .before .before .before .before .before
+    in
     let args = m .before .before .before .before .before .before .before .before .before .before .args in
     let u = memory (args .nets1 .now) (args .nets2 .now) (args .ranges .now) (args .depths .now) (args .raw .now) in
     let A = accepted (args .st) u _ _ _ (m .before .before .before .before .has-room .ensures) (sym (m .top .given .1) ∙ m .before .before .top-node .ensures) in
-    step-accepted geometry (args .st) u (args .v) _ _ _ _ A (c .moved .ensures) (c .before .before .before .before .before .before .before .before .before .before .before .advance .ensures .0)
+    step-accepted geometry (args .st) u (args .v) _ _ _ _ A (c .moved .ensures)
+    (c .before .before .before .before .before .before .before .before .before .before .before .advance .ensures .0)
 
 pub step-spec : {M : Type 1} → statement M
 step-spec =

@@ -50,7 +50,9 @@ slice-aggregate-answer-second : tie.Need-slice-aggregate-answer-second
 slice-aggregate-answer-second c =
     let b = c .before .before .before .before .before .before .before .before .before .before .before .before .before .before in
     let pre = b .before .before .before .pre in
-    sym (length-take-le (b .before .before .before .args .l .knots .count) (c .before .before .before .before .before .before .read-line .last .1 .1 .0) (omega (arith, c .before .before .before .before .before .before .read-line .kept .1 .1 .0, b .float-room .ensures, pre .1, pre .2 .knots)))
+    sym (length-take-le (b .before .before .before .args .l .knots .count)
+    (c .before .before .before .before .before .before .read-line .last .1 .1 .0)
+    (omega (arith, c .before .before .before .before .before .before .read-line .kept .1 .1 .0, b .float-room .ensures, pre .1, pre .2 .knots)))
 
 array-share-prefix-mults : tie.Need-array-share-prefix-mults
 array-share-prefix-mults c = search needs
@@ -59,7 +61,9 @@ slice-aggregate-answer-second-2 : tie.Need-slice-aggregate-answer-second-2
 slice-aggregate-answer-second-2 c =
     let b = c .before .before .before .before .before .before .before in
     let pre = b .before .before .before .before .before .before .before .before .before .before .before .pre in
-    sym (length-take-le (b .before .before .before .before .before .before .before .before .before .before .before .args .l .mults .count) (b .read-line .last .1 .1 .1 .0) (omega (arith, b .read-line .kept .1 .1 .1 .0, b .before .before .before .before .before .before .before .word-room .ensures, pre .1, pre .2 .mults)))
+    sym (length-take-le (b .before .before .before .before .before .before .before .before .before .before .before .args .l .mults .count)
+    (b .read-line .last .1 .1 .1 .0) (omega
+    (arith, b .read-line .kept .1 .1 .1 .0, b .before .before .before .before .before .before .before .word-room .ensures, pre .1, pre .2 .mults)))
 
 array-share-prefix-coords : tie.Need-array-share-prefix-coords
 array-share-prefix-coords c = search needs
@@ -68,7 +72,9 @@ slice-aggregate-answer-second-3 : tie.Need-slice-aggregate-answer-second-3
 slice-aggregate-answer-second-3 c =
     let b = c .before .before .before .before .before .before .before .before in
     let pre = b .before .before .before .before .before .before .before .before .before .before .before .pre in
-    sym (length-take-le (3 * b .before .before .before .before .before .before .before .before .before .before .before .args .l .poles .count) (b .read-line .last .1 .1 .1 .1 .0) (omega (arith, b .read-line .kept .1 .1 .1 .1 .0, b .before .before .before .before .before .before .float-room2 .ensures, pre .1, pre .2 .poles)))
+    sym (length-take-le (3 * b .before .before .before .before .before .before .before .before .before .before .before .args .l .poles .count)
+    (b .read-line .last .1 .1 .1 .1 .0) (omega
+    (arith, b .read-line .kept .1 .1 .1 .1 .0, b .before .before .before .before .before .before .float-room2 .ensures, pre .1, pre .2 .poles)))
 
 array-share-prefix-weights : tie.Need-array-share-prefix-weights
 array-share-prefix-weights c = search needs
@@ -77,7 +83,9 @@ slice-aggregate-answer-second-4 : tie.Need-slice-aggregate-answer-second-4
 slice-aggregate-answer-second-4 c =
     let b = c .before .before .before .before .before .before .before .before .before in
     let pre = b .before .before .before .before .before .before .before .before .before .before .before .pre in
-    sym (length-take-le (b .before .before .before .before .before .before .before .before .before .before .before .args .l .weights .count) (b .read-line .last .1 .1 .1 .1 .1 .0) (omega (arith, b .read-line .kept .1 .1 .1 .1 .1 .0, b .before .before .before .before .before .float-room3 .ensures, pre .1, pre .2 .weights)))
+    sym (length-take-le (b .before .before .before .before .before .before .before .before .before .before .before .args .l .weights .count)
+    (b .read-line .last .1 .1 .1 .1 .1 .0) (omega
+    (arith, b .read-line .kept .1 .1 .1 .1 .1 .0, b .before .before .before .before .before .float-room3 .ensures, pre .1, pre .2 .weights)))
 
 answer-second-requires : tie.Need-answer-second-requires
 answer-second-requires c κs = search needs
@@ -92,7 +100,8 @@ returns c =
     let e = c .before .before .before .before .before .before .before .before .before .before .before .before .before .read-line .ensures in
     moved (a .out .now) _ _
     (ap (λ (z : Line). linesText (questionOf (a .q) z (lineIn (walkedLine (a .s .now) (a .second)))))
-    (line-read (a .s .now) (a .l) (b .before .before .before .float-room .result) (b .before .float-room2 .result) (b .float-room3 .result) (b .before .before .word-room .result) (e .0) (e .1) (e .2) (e .3)))
+    (line-read (a .s .now) (a .l) (b .before .before .before .float-room .result) (b .before .float-room2 .result) (b .float-room3 .result)
+    (b .before .before .word-room .result) (e .0) (e .1) (e .2) (e .3)))
     (c .before .before .answer-second .ensures)
 
 pub answer-first-spec : {M : Type 1} → statement M

@@ -41,55 +41,99 @@ read-line-requires c κs = search needs
 
 mul-c : tie.Need-mul-c
 mul-c c =
-    let pre = c .before .before .before .before .before .before .before .before .before .before .before .before .before .before .before .before .before .before .before .before .pre in
+    let pre =
+    c .before .before .before .before .before .before .before .before .before .before .before .before .before .before .before .before .before .before .before .before .pre
+    in
     search (needs, pre .1, pre .2 .poles)
 
 array-share-prefix-knots : tie.Need-array-share-prefix-knots
 array-share-prefix-knots c =
-    let pre = c .before .before .before .before .before .before .before .before .before .before .before .before .before .before .before .before .before .before .before .before .pre in
-    (omega (arith, c .before .before .before .before .before .read-line .kept .1 .1 .0, c .before .before .before .before .before .before .before .before .before .before .before .before .before .float-room .ensures, pre .1, pre .2 .knots))
+    let pre =
+    c .before .before .before .before .before .before .before .before .before .before .before .before .before .before .before .before .before .before .before .before .pre
+    in
+    (omega (
+      arith,
+      c .before .before .before .before .before .read-line .kept .1 .1 .0,
+      c .before .before .before .before .before .before .before .before .before .before .before .before .before .float-room .ensures,
+      pre .1,
+      pre .2 .knots,
+    ))
 
 slice-aggregate-answer-lines : tie.Need-slice-aggregate-answer-lines
 slice-aggregate-answer-lines c =
     let b = c .before .before .before .before .before .before .before .before .before .before .before .before .before .before in
     let pre = b .before .before .before .before .before .before .before .pre in
-    sym (length-take-le (b .before .before .before .before .before .before .before .args .l .knots .count) (c .before .before .before .before .before .before .read-line .last .1 .1 .0) (omega (arith, c .before .before .before .before .before .before .read-line .kept .1 .1 .0, b .float-room .ensures, pre .1, pre .2 .knots)))
+    sym (length-take-le (b .before .before .before .before .before .before .before .args .l .knots .count)
+    (c .before .before .before .before .before .before .read-line .last .1 .1 .0)
+    (omega (arith, c .before .before .before .before .before .before .read-line .kept .1 .1 .0, b .float-room .ensures, pre .1, pre .2 .knots)))
 
 array-share-prefix-mults : tie.Need-array-share-prefix-mults
 array-share-prefix-mults c =
-    let pre = c .before .before .before .before .before .before .before .before .before .before .before .before .before .before .before .before .before .before .before .before .before .pre in
-    (omega (arith, c .before .before .before .before .before .before .read-line .kept .1 .1 .1 .0, c .before .before .before .before .before .before .before .before .before .before .before .before .before .word-room .ensures, pre .1, pre .2 .mults))
+    let pre =
+    c .before .before .before .before .before .before .before .before .before .before .before .before .before .before .before .before .before .before .before .before .before .pre
+    in
+    (omega (
+      arith,
+      c .before .before .before .before .before .before .read-line .kept .1 .1 .1 .0,
+      c .before .before .before .before .before .before .before .before .before .before .before .before .before .word-room .ensures,
+      pre .1,
+      pre .2 .mults,
+    ))
 
 slice-aggregate-answer-lines-2 : tie.Need-slice-aggregate-answer-lines-2
 slice-aggregate-answer-lines-2 c =
     let b = c .before .before .before .before .before .before .before in
     let pre = b .before .before .before .before .before .before .before .before .before .before .before .before .before .before .before .pre in
-    sym (length-take-le (b .before .before .before .before .before .before .before .before .before .before .before .before .before .before .before .args .l .mults .count) (b .read-line .last .1 .1 .1 .0) (omega (arith, b .read-line .kept .1 .1 .1 .0, b .before .before .before .before .before .before .before .word-room .ensures, pre .1, pre .2 .mults)))
+    sym (length-take-le (b .before .before .before .before .before .before .before .before .before .before .before .before .before .before .before .args .l .mults .count)
+    (b .read-line .last .1 .1 .1 .0) (omega
+    (arith, b .read-line .kept .1 .1 .1 .0, b .before .before .before .before .before .before .before .word-room .ensures, pre .1, pre .2 .mults)))
 
 array-share-prefix-coords : tie.Need-array-share-prefix-coords
 array-share-prefix-coords c =
-    let pre = c .before .before .before .before .before .before .before .before .before .before .before .before .before .before .before .before .before .before .before .before .before .before .pre in
-    (omega (arith, c .before .before .before .before .before .before .before .read-line .kept .1 .1 .1 .1 .0, c .before .before .before .before .before .before .before .before .before .before .before .before .before .float-room2 .ensures, pre .1, pre .2 .poles))
+    let pre =
+    c .before .before .before .before .before .before .before .before .before .before .before .before .before .before .before .before .before .before .before .before .before .before .pre
+    in
+    (omega (
+      arith,
+      c .before .before .before .before .before .before .before .read-line .kept .1 .1 .1 .1 .0,
+      c .before .before .before .before .before .before .before .before .before .before .before .before .before .float-room2 .ensures,
+      pre .1,
+      pre .2 .poles,
+    ))
 
 slice-aggregate-answer-lines-3 : tie.Need-slice-aggregate-answer-lines-3
 slice-aggregate-answer-lines-3 c =
     let b = c .before .before .before .before .before .before .before .before in
     let pre = b .before .before .before .before .before .before .before .before .before .before .before .before .before .before .before .pre in
-    sym (length-take-le (3 * b .before .before .before .before .before .before .before .before .before .before .before .before .before .before .before .args .l .poles .count) (b .read-line .last .1 .1 .1 .1 .0) (omega (arith, b .read-line .kept .1 .1 .1 .1 .0, b .before .before .before .before .before .before .float-room2 .ensures, pre .1, pre .2 .poles)))
+    sym (length-take-le (3 *
+    b .before .before .before .before .before .before .before .before .before .before .before .before .before .before .before .args .l .poles .count)
+    (b .read-line .last .1 .1 .1 .1 .0) (omega
+    (arith, b .read-line .kept .1 .1 .1 .1 .0, b .before .before .before .before .before .before .float-room2 .ensures, pre .1, pre .2 .poles)))
 
 array-share-prefix-weights : tie.Need-array-share-prefix-weights
 array-share-prefix-weights c =
-    let pre = c .before .before .before .before .before .before .before .before .before .before .before .before .before .before .before .before .before .before .before .before .before .before .before .pre in
-    (omega (arith, c .before .before .before .before .before .before .before .before .read-line .kept .1 .1 .1 .1 .1 .0, c .before .before .before .before .before .before .before .before .before .before .before .before .before .float-room3 .ensures, pre .1, pre .2 .weights))
+    let pre =
+    c .before .before .before .before .before .before .before .before .before .before .before .before .before .before .before .before .before .before .before .before .before .before .before .pre
+    in
+    (omega (
+      arith,
+      c .before .before .before .before .before .before .before .before .read-line .kept .1 .1 .1 .1 .1 .0,
+      c .before .before .before .before .before .before .before .before .before .before .before .before .before .float-room3 .ensures,
+      pre .1,
+      pre .2 .weights,
+    ))
 
 slice-aggregate-answer-lines-4 : tie.Need-slice-aggregate-answer-lines-4
 slice-aggregate-answer-lines-4 c =
     let b = c .before .before .before .before .before .before .before .before .before in
     let pre = b .before .before .before .before .before .before .before .before .before .before .before .before .before .before .before .pre in
-    sym (length-take-le (b .before .before .before .before .before .before .before .before .before .before .before .before .before .before .before .args .l .weights .count) (b .read-line .last .1 .1 .1 .1 .1 .0) (omega (arith, b .read-line .kept .1 .1 .1 .1 .1 .0, b .before .before .before .before .before .float-room3 .ensures, pre .1, pre .2 .weights)))
+    sym (length-take-le (b .before .before .before .before .before .before .before .before .before .before .before .before .before .before .before .args .l .weights .count)
+    (b .read-line .last .1 .1 .1 .1 .1 .0) (omega
+    (arith, b .read-line .kept .1 .1 .1 .1 .1 .0, b .before .before .before .before .before .float-room3 .ensures, pre .1, pre .2 .weights)))
 
 answer-lines-requires : tie.Need-answer-lines-requires
-answer-lines-requires c κs = c .before .before .before .before .before .before .before .before .before .before .before .before .before .before .before .before .before .before .before .before .before .before .before .before .before .pre .0
+answer-lines-requires c κs =
+    c .before .before .before .before .before .before .before .before .before .before .before .before .before .before .before .before .before .before .before .before .before .before .before .before .before .pre .0
 
 same-length : tie.Need-same-length
 same-length c = search needs
@@ -101,7 +145,8 @@ returns c =
     let e = c .before .before .before .before .before .before .before .before .before .before .before .before .before .read-line .ensures in
     moved (a .out .now) _ _
     (ap (λ (z : Line). linesText (questionOf (a .q) (lineOf (a .degree1) (a .knots1 .now) (a .mults1 .now) (a .coords1 .now) (a .weights1 .now)) z))
-    (line-read (a .s .now) (a .l) (b .before .before .before .float-room .result) (b .before .float-room2 .result) (b .float-room3 .result) (b .before .before .word-room .result) (e .0) (e .1) (e .2) (e .3)))
+    (line-read (a .s .now) (a .l) (b .before .before .before .float-room .result) (b .before .float-room2 .result) (b .float-room3 .result)
+    (b .before .before .word-room .result) (e .0) (e .1) (e .2) (e .3)))
     (c .before .before .answer-lines .ensures)
 
 pub answer-second-spec : {M : Type 1} → statement M

@@ -27,7 +27,10 @@ loop-again : tie.Need-loop-again Inv-loop μ-loop
 loop-again c = omega (arith, places-turn (c .before .loop .left) (search needs), c .before .loop .inv)
 
 returns : tie.Need-returns Inv-loop μ-loop
-returns c = (omega (arith, places-end (c .before .loop .left) (c .before .loop .left) (search needs), c .before .loop .inv), omega (arith, places-least (c .before .loop .left) (c .before .loop .left), places-fit (c .before .before .args .n) (search needs)))
+returns c = (
+  omega (arith, places-end (c .before .loop .left) (c .before .loop .left) (search needs), c .before .loop .inv),
+  omega (arith, places-least (c .before .loop .left) (c .before .loop .left), places-fit (c .before .before .args .n) (search needs)),
+)
 
 pub places-spec : {M : Type 1} → statement M
 places-spec = tie.close (tie.spec Inv-loop μ-loop loop-holds add-k loop-less loop-again returns)

@@ -34,8 +34,12 @@ loop-less c = search needs
 
 loop-again : tie.Need-loop-again Inv-loop μ-loop
 loop-again c =
-    let args = c .before .before .before .args in
-    (search needs, search needs, copy-turn (args .out .now) (args .at) (args .text .now) (c .before .before .loop .i) (c .before .before .loop .inv .2) (search needs) (search needs))
+    let args = c .before .before .before .args in (
+      search needs,
+      search needs,
+      copy-turn (args .out .now) (args .at) (args .text .now) (c .before .before .loop .i) (c .before .before .loop .inv .2) (search needs)
+          (search needs),
+    )
 
 add-result : tie.Need-add-result Inv-loop μ-loop
 add-result c = search needs

@@ -20,8 +20,10 @@ same-length c = search needs
 returns : tie.Need-returns
 returns c =
     let args = c .before .before .before .before .before .before .args in
-    let places = c .before .before .before .before .places in
-    (omega (arith, decimal-length (args .n), places .ensures .0), decimal-is (args .out .now) (args .at) (places .result) (args .n) (places .ensures .0) (c .before .before .put-digits .ensures))
+    let places = c .before .before .before .before .places in (
+      omega (arith, decimal-length (args .n), places .ensures .0),
+      decimal-is (args .out .now) (args .at) (places .result) (args .n) (places .ensures .0) (c .before .before .put-digits .ensures),
+    )
 
 pub put-decimal-spec : {M : Type 1} → statement M
 put-decimal-spec =

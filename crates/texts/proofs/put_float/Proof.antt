@@ -29,8 +29,11 @@ same-length c =
 
 returns : tie.Need-returns
 returns c =
-    let args = c .before .before .before .before .before .before .args in
-    (omega (arith, float-length (args .x)), float-is (args .out .now) (args .at) (c .before .before .before .bits .result) (args .x) (search needs) (c .before .before .before .bits .ensures) (c .before .before .put-digits .ensures))
+    let args = c .before .before .before .before .before .before .args in (
+      omega (arith, float-length (args .x)),
+      float-is (args .out .now) (args .at) (c .before .before .before .bits .result) (args .x) (search needs)
+          (c .before .before .before .bits .ensures) (c .before .before .put-digits .ensures),
+    )
 
 pub put-float-spec : {M : Type 1} → statement M
 put-float-spec =

@@ -23,7 +23,9 @@ cast-t9 : tie.Need-cast-t9
 cast-t9 c = search needs
 
 returns : tie.Need-returns
-returns c = line-fits (c .before .before .before .before .before .part-after .ensures) (c .before .before .before .before .part-after2 .ensures) (c .before .before .before .part-after3 .ensures) (c .before .before .part-after4 .ensures) (c .before .weights-after .ensures)
+returns c =
+    line-fits (c .before .before .before .before .before .part-after .ensures) (c .before .before .before .before .part-after2 .ensures)
+    (c .before .before .before .part-after3 .ensures) (c .before .before .part-after4 .ensures) (c .before .weights-after .ensures)
 
 pub line-after-spec : {M : Type 1} → statement M
 line-after-spec =

@@ -14,7 +14,8 @@ no-part-requires c κs = search needs
 returns : tie.Need-returns
 returns c =
     let args = c .before .before .before .args in
-    before-refused (args .s .now) (args .no) (partOf (args .s .now) (args .kind) (args .at)) (sizeOf (args .kind)) (c .no-part .result) (c .no-part .ensures) (c .before .if1 .taken)
+    before-refused (args .s .now) (args .no) (partOf (args .s .now) (args .kind) (args .at)) (sizeOf (args .kind)) (c .no-part .result)
+    (c .no-part .ensures) (c .before .if1 .taken)
 
 sub-if2 : tie.Need-sub-if2
 sub-if2 c = search needs
@@ -25,7 +26,9 @@ no-part-requires-2 c κs = search needs
 returns-2 : tie.Need-returns-2
 returns-2 c =
     let args = c .before .before .before .before .args in
-    here-refused (args .s .now) (args .no) (partOf (args .s .now) (args .kind) (args .at)) (sizeOf (args .kind)) (c .no-part2 .result) 3 (c .no-part2 .ensures) (λ e. omega arith) (c .before .before .if1 .left) (no-word (args .s .now) (args .kind) (args .at) (search needs) (c .before .if2 .taken))
+    here-refused (args .s .now) (args .no) (partOf (args .s .now) (args .kind) (args .at)) (sizeOf (args .kind)) (c .no-part2 .result) 3
+    (c .no-part2 .ensures) (λ e. omega arith) (c .before .before .if1 .left)
+    (no-word (args .s .now) (args .kind) (args .at) (search needs) (c .before .if2 .taken))
 
 word-requires : tie.Need-word-requires
 word-requires c κs = search needs
@@ -39,7 +42,10 @@ no-part-requires-3 c κs = search needs
 returns-3 : tie.Need-returns-3
 returns-3 c =
     let args = c .before .before .before .before .before .before .args in
-    here-refused (args .s .now) (args .no) (partOf (args .s .now) (args .kind) (args .at)) (sizeOf (args .kind)) (c .no-part3 .result) 2 (c .no-part3 .ensures) (λ e. omega arith) (c .before .before .before .before .if1 .left) (other-kind (args .s .now) (args .kind) (args .at) (c .before .before .word .result) (c .before .before .word .ensures .0) (c .before .before .before .if2 .left) (c .before .if3 .taken))
+    here-refused (args .s .now) (args .no) (partOf (args .s .now) (args .kind) (args .at)) (sizeOf (args .kind)) (c .no-part3 .result) 2
+    (c .no-part3 .ensures) (λ e. omega arith) (c .before .before .before .before .if1 .left)
+    (other-kind (args .s .now) (args .kind) (args .at) (c .before .before .word .result) (c .before .before .word .ensures .0)
+    (c .before .before .before .if2 .left) (c .before .if3 .taken))
 
 bad-count-requires : tie.Need-bad-count-requires
 bad-count-requires c κs = search needs
@@ -50,7 +56,11 @@ no-part-requires-4 c κs = search needs
 returns-4 : tie.Need-returns-4
 returns-4 c =
     let args = c .before .before .before .before .before .before .before .before .args in
-    here-refused (args .s .now) (args .no) (partOf (args .s .now) (args .kind) (args .at)) (sizeOf (args .kind)) (c .no-part4 .result) 2 (c .no-part4 .ensures) (λ e. omega arith) (c .before .before .before .before .before .before .if1 .left) (wrong-count (args .s .now) (args .kind) (args .at) (c .before .before .before .before .word .result) (c .before .before .before .before .word .ensures .0) (c .before .before .before .before .before .if2 .left) (c .before .before .before .if3 .left) (sym (c .before .before .bad-count .ensures) ∙ c .before .if4 .taken))
+    here-refused (args .s .now) (args .no) (partOf (args .s .now) (args .kind) (args .at)) (sizeOf (args .kind)) (c .no-part4 .result) 2
+    (c .no-part4 .ensures) (λ e. omega arith) (c .before .before .before .before .before .before .if1 .left)
+    (wrong-count (args .s .now) (args .kind) (args .at) (c .before .before .before .before .word .result)
+    (c .before .before .before .before .word .ensures .0) (c .before .before .before .before .before .if2 .left)
+    (c .before .before .before .if3 .left) (sym (c .before .before .bad-count .ensures) ∙ c .before .if4 .taken))
 
 add-from : tie.Need-add-from
 add-from c = search needs
@@ -68,7 +78,11 @@ returns-5 : tie.Need-returns-5
 returns-5 c =
     let b = c .before .before .before .before .before .before in
     let args = b .before .before .before .before .args in
-    here-refused (args .s .now) (args .no) (partOf (args .s .now) (args .kind) (args .at)) (sizeOf (args .kind)) (c .no-part5 .result) 3 (c .no-part5 .ensures) (λ e. omega arith) (b .before .before .if1 .left) (too-long (args .s .now) (args .kind) (args .at) (b .word .result) (b .word .ensures .0) (b .before .if2 .left) (c .before .before .before .before .before .if3 .left) (c .before .before .size .result) (c .before .before .size .ensures .0) (sym (c .before .before .before .before .bad-count .ensures) ∙ c .before .before .before .if4 .left) (c .before .if5 .taken))
+    here-refused (args .s .now) (args .no) (partOf (args .s .now) (args .kind) (args .at)) (sizeOf (args .kind)) (c .no-part5 .result) 3
+    (c .no-part5 .ensures) (λ e. omega arith) (b .before .before .if1 .left)
+    (too-long (args .s .now) (args .kind) (args .at) (b .word .result) (b .word .ensures .0) (b .before .if2 .left)
+    (c .before .before .before .before .before .if3 .left) (c .before .before .size .result) (c .before .before .size .ensures .0)
+    (sym (c .before .before .before .before .bad-count .ensures) ∙ c .before .before .before .if4 .left) (c .before .if5 .taken))
 
 add-t10 : tie.Need-add-t10
 add-t10 c = search needs
@@ -76,7 +90,14 @@ add-t10 c = search needs
 returns-6 : tie.Need-returns-6
 returns-6 c =
     let args = c .before .before .before .before .before .before .before .before .before .args in
-    taken (args .s .now) (args .no) (partOf (args .s .now) (args .kind) (args .at)) (sizeOf (args .kind)) ((c .before .before .before .before .before .word .result) % 268435456) ((args .at) + 4) ((args .at) + 4 + c .before .size .result) (c .before .before .before .before .before .before .before .if1 .left) (found (args .s .now) (args .kind) (args .at) (c .before .before .before .before .before .word .result) (c .before .before .before .before .before .word .ensures .0) (c .before .before .before .before .before .before .if2 .left) (c .before .before .before .before .if3 .left) (c .before .size .result) (c .before .size .ensures .0) (sym (c .before .before .before .bad-count .ensures) ∙ c .before .before .if4 .left) (c .if5 .left)) (search needs) (search needs) (omega arith)
+    taken (args .s .now) (args .no) (partOf (args .s .now) (args .kind) (args .at)) (sizeOf (args .kind))
+    ((c .before .before .before .before .before .word .result) % 268435456) ((args .at) + 4) ((args .at) + 4 + c .before .size .result)
+    (c .before .before .before .before .before .before .before .if1 .left)
+    (found (args .s .now) (args .kind) (args .at) (c .before .before .before .before .before .word .result)
+    (c .before .before .before .before .before .word .ensures .0) (c .before .before .before .before .before .before .if2 .left)
+    (c .before .before .before .before .if3 .left) (c .before .size .result) (c .before .size .ensures .0)
+    (sym (c .before .before .before .bad-count .ensures) ∙ c .before .before .if4 .left) (c .if5 .left)) (search needs) (search needs)
+    (omega arith)
 
 pub part-after-spec : {M : Type 1} → statement M
 part-after-spec =

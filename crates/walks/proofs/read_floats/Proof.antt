@@ -45,8 +45,12 @@ loop-again : tie.Need-loop-again Inv-loop μ-loop
 unfolding floatsFrom
 loop-again c =
     let args = c .before .before .before .before .before .args in
-    let loop = c .before .before .loop in
-    (search needs, search needs, read-turn (floatsFrom (args .s .now)) (floatAt (args .s .now)) 8 (λ a n. refl) (floats-length (args .s .now)) (loop .out) (args .at) (args .n) (loop .i) (c .float-at .result) (search needs) (search needs) (c .float-at .ensures) ∙ loop .inv .2)
+    let loop = c .before .before .loop in (
+      search needs,
+      search needs,
+      read-turn (floatsFrom (args .s .now)) (floatAt (args .s .now)) 8 (λ a n. refl) (floats-length (args .s .now)) (loop .out) (args .at) (args .n)
+          (loop .i) (c .float-at .result) (search needs) (search needs) (c .float-at .ensures) ∙ loop .inv .2,
+    )
 
 same-length : tie.Need-same-length Inv-loop μ-loop
 same-length c = search needs

@@ -16,7 +16,10 @@ read-floats-requires-2 : tie.Need-read-floats-requires-2
 read-floats-requires-2 c κs = search needs
 
 read-floats-requires-3 : tie.Need-read-floats-requires-3
-read-floats-requires-3 c κs = let pre = c .before .before .before .before .before .before .before .before .before .before .before .before .before .before .before .before .before .before .before .pre in (pre .0 .0 .weights, pre .1 .3)
+read-floats-requires-3 c κs =
+    let pre =
+    c .before .before .before .before .before .before .before .before .before .before .before .before .before .before .before .before .before .before .before .pre
+    in (pre .0 .0 .weights, pre .1 .3)
 
 same-length : tie.Need-same-length
 same-length c = search needs

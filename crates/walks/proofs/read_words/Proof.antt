@@ -45,8 +45,12 @@ loop-again : tie.Need-loop-again Inv-loop μ-loop
 unfolding wordsFrom
 loop-again c =
     let args = c .before .before .before .before .before .args in
-    let loop = c .before .before .loop in
-    (search needs, search needs, read-turn (wordsFrom (args .s .now)) (wordAt (args .s .now)) 4 (λ a n. refl) (words-length (args .s .now)) (loop .out) (args .at) (args .n) (loop .i) (c .word .result) (search needs) (search needs) (c .word .ensures .0) ∙ loop .inv .2)
+    let loop = c .before .before .loop in (
+      search needs,
+      search needs,
+      read-turn (wordsFrom (args .s .now)) (wordAt (args .s .now)) 4 (λ a n. refl) (words-length (args .s .now)) (loop .out) (args .at) (args .n)
+          (loop .i) (c .word .result) (search needs) (search needs) (c .word .ensures .0) ∙ loop .inv .2,
+    )
 
 same-length : tie.Need-same-length Inv-loop μ-loop
 same-length c = search needs

@@ -26,7 +26,11 @@ returns-4 : tie.Need-returns-4
 returns-4 c = (size-question (c .before .args .kind) (c .before .args .n) (c .match .keys4), search needs)
 
 returns-5 : tie.Need-returns-5
-returns-5 c = (size-none (c .before .args .kind) (c .before .args .n) (c .match .rest .0 .0 .0 .1) (c .match .rest .0 .0 .1) (c .match .rest .0 .1) (c .match .rest .1), search needs)
+returns-5 c = (
+  size-none (c .before .args .kind) (c .before .args .n) (c .match .rest .0 .0 .0 .1) (c .match .rest .0 .0 .1) (c .match .rest .0 .1)
+      (c .match .rest .1),
+  search needs,
+)
 
 pub size-spec : {M : Type 1} → statement M
 size-spec =

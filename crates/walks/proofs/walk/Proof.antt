@@ -31,8 +31,14 @@ returns c =
     let length-no = c .before .before .before .before .before .before .length-no in
     let line-after = c .before .before .before .before .before .line-after in
     let line-after2 = c .before .before .before .before .line-after2 in
-    let part-after = c .before .before .before .part-after in
-    (sheet-says (args .s .now) (length-no .result) (c .before .tail-no .result) (line-after .result) (line-after2 .result) (part-after .result) (c .before .before .part-after2 .result) (line-after .ensures) (line-after2 .ensures) (part-after .ensures) (c .before .before .part-after2 .ensures) (length-no .ensures) (c .before .tail-no .ensures), sheet-inside (args .s .now) (length-no .result) (c .before .tail-no .result) (line-after .result) (line-after2 .result) (part-after .result) (c .before .before .part-after2 .result) (line-after .ensures) (line-after2 .ensures) (part-after .ensures) (c .before .before .part-after2 .ensures) (c .before .tail-no .ensures))
+    let part-after = c .before .before .before .part-after in (
+      sheet-says (args .s .now) (length-no .result) (c .before .tail-no .result) (line-after .result) (line-after2 .result) (part-after .result)
+          (c .before .before .part-after2 .result) (line-after .ensures) (line-after2 .ensures) (part-after .ensures)
+          (c .before .before .part-after2 .ensures) (length-no .ensures) (c .before .tail-no .ensures),
+      sheet-inside (args .s .now) (length-no .result) (c .before .tail-no .result) (line-after .result) (line-after2 .result) (part-after .result)
+          (c .before .before .part-after2 .result) (line-after .ensures) (line-after2 .ensures) (part-after .ensures)
+          (c .before .before .part-after2 .ensures) (c .before .tail-no .ensures),
+    )
 
 pub walk-spec : {M : Type 1} → statement M
 walk-spec =

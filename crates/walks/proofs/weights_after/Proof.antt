@@ -26,19 +26,24 @@ part-after-requires c κs = search needs
 returns-2 : tie.Need-returns-2
 returns-2 c =
     let args = c .before .before .before .before .before .before .args in
-    taken-over (args .s .now) (args .no) (weightsOf (args .s .now) (args .at)) (partOf (args .s .now) 5 (args .at)) (sizeOf 5) (c .part-after .result) (c .before .before .before .before .if1 .left) (weights-there (args .s .now) (args .at) (c .before .before .word .result) (c .before .before .word .ensures .0) (c .before .before .before .if2 .taken) (c .before .if3 .taken)) (c .part-after .ensures)
+    taken-over (args .s .now) (args .no) (weightsOf (args .s .now) (args .at)) (partOf (args .s .now) 5 (args .at)) (sizeOf 5) (c .part-after .result)
+    (c .before .before .before .before .if1 .left) (weights-there (args .s .now) (args .at) (c .before .before .word .result)
+    (c .before .before .word .ensures .0) (c .before .before .before .if2 .taken) (c .before .if3 .taken)) (c .part-after .ensures)
 
 returns-3 : tie.Need-returns-3
 unfolding sizeOf
 returns-3 c =
     let args = c .before .before .before .before .before .args in
-    taken (args .s .now) (args .no) (weightsOf (args .s .now) (args .at)) (sizeOf 5) 0 (args .at) (args .at) (c .before .before .before .if1 .left) (weights-absent (args .s .now) (args .at) (c .before .word .result) (c .before .word .ensures .0) (c .before .before .if2 .taken) (c .if3 .left)) (search needs) (search needs) (omega arith)
+    taken (args .s .now) (args .no) (weightsOf (args .s .now) (args .at)) (sizeOf 5) 0 (args .at) (args .at) (c .before .before .before .if1 .left)
+    (weights-absent (args .s .now) (args .at) (c .before .word .result) (c .before .word .ensures .0) (c .before .before .if2 .taken)
+    (c .if3 .left)) (search needs) (search needs) (omega arith)
 
 returns-4 : tie.Need-returns-4
 unfolding sizeOf
 returns-4 c =
     let args = c .before .before .before .args in
-    taken (args .s .now) (args .no) (weightsOf (args .s .now) (args .at)) (sizeOf 5) 0 (args .at) (args .at) (c .before .if1 .left) (weights-at-end (args .s .now) (args .at) (search needs) (c .if2 .left)) (search needs) (search needs) (omega arith)
+    taken (args .s .now) (args .no) (weightsOf (args .s .now) (args .at)) (sizeOf 5) 0 (args .at) (args .at) (c .before .if1 .left)
+    (weights-at-end (args .s .now) (args .at) (search needs) (c .if2 .left)) (search needs) (search needs) (omega arith)
 
 pub weights-after-spec : {M : Type 1} → statement M
 weights-after-spec =

@@ -37,7 +37,12 @@ loop-less : tie.Need-loop-less Inv-loop μ-loop
 loop-less c = search needs
 
 loop-again : tie.Need-loop-again Inv-loop μ-loop
-loop-again c = (search needs, search needs, words-turn (c .before .before .before .args .w .now) (c .before .before .before .args .words .now) (c .before .before .loop .i) (c .before .before .loop .inv .2) (search needs) (search needs))
+loop-again c = (
+  search needs,
+  search needs,
+  words-turn (c .before .before .before .args .w .now) (c .before .before .before .args .words .now) (c .before .before .loop .i)
+      (c .before .before .loop .inv .2) (search needs) (search needs),
+)
 
 same-length : tie.Need-same-length Inv-loop μ-loop
 same-length c = search needs

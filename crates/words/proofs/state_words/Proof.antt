@@ -40,7 +40,9 @@ returns c =
     let st = c .before .before .before .before .before .before .before .before .before .before .args .st in
     let k = c .before .before .before .before .before .before .before .before .before .struct-known .given in (
       words-are st (c .before .before .wide .ensures) (c .before .wide2 .ensures) (c .flag .ensures),
-      are-state st (omega (arith, k .0)) (omega (arith, k .1 .0)) (omega (arith, k .1 .1 .0)) (omega (arith, k .1 .1 .1 .1 .0)) (omega (arith, k .1 .1 .1 .1 .1 .0)) (omega (arith, k .1 .1 .1 .1 .1 .1 .0)) (omega (arith, k .1 .1 .1 .1 .1 .1 .1 .0)) (omega (arith, k .1 .1 .1 .1 .1 .1 .1 .1 .0)) (omega (arith, k .1 .1 .1 .1 .1 .1 .1 .1 .1 .0)),
+      are-state st (omega (arith, k .0)) (omega (arith, k .1 .0)) (omega (arith, k .1 .1 .0)) (omega (arith, k .1 .1 .1 .1 .0))
+          (omega (arith, k .1 .1 .1 .1 .1 .0)) (omega (arith, k .1 .1 .1 .1 .1 .1 .0)) (omega (arith, k .1 .1 .1 .1 .1 .1 .1 .0))
+          (omega (arith, k .1 .1 .1 .1 .1 .1 .1 .1 .0)) (omega (arith, k .1 .1 .1 .1 .1 .1 .1 .1 .1 .0)),
     )
 
 pub state-words-spec : {M : Type 1} → statement M
