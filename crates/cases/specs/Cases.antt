@@ -8,7 +8,7 @@ use lib.Ieee.{Float, binary64, ofBits, toBits}
 use Rattle.roots.specs.Root.{rootOf}
 use Rattle.floats.specs.Floats.{zero64, one64, half64}
 use Rattle.regions.specs.Reports.{wordNumber}
-use Rattle.facts.specs.Faults.{Line, Question}
+use Rattle.lines.specs.Lines.{Line, Question}
 use Rattle.curves.specs.Curves.{piecesOf}
 use Rattle.states.specs.States.{Memory, memory}
 use Rattle.search.specs.declared.Stepped.{Stepped}

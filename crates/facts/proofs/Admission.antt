@@ -14,7 +14,8 @@ use Rattle.floats.specs.Sizes.{Within}
 use Rattle.lines.specs.declared.Admission.{Admission}
 use Rattle.lines.specs.declared.Admission.the-variants.{Admitted, InvalidDegree, KnotCount, KnotOutOfRange, KnotsNotIncreasing, MultiplicityTooLarge, ZeroMultiplicity, PoleCountMismatch, PoleCountOutOfRange, WeightCountMismatch, WeightOutOfRange, CoordinateOutOfRange}
 use Rattle.lines.specs.Admit.{admissionNumber, two20, two24, two10, one1024th, inner, degreeOut, knotCountOut, knotOut, notIncreasing, tooLarge, zeroMult, poleMismatch, poleCountOut, weightMismatch, weightOut, coordOut, validateDirection, validatePoles}
-use Rattle.facts.specs.Faults.{Line, poles, Fault4, Fault5, Fault6, Fault7, Fault8, Fault9, Fault10, Fault11, Fault12, Fault13, Fault14, LineFault, FirstLineFault, admission}
+use Rattle.lines.specs.Lines.{Line}
+use Rattle.facts.specs.Faults.{poles, Fault4, Fault5, Fault6, Fault7, Fault8, Fault9, Fault10, Fault11, Fault12, Fault13, Fault14, LineFault, FirstLineFault, admission}
 use Rattle.facts.proofs.Reflect.{Tests, of-T, of-lt, of-eq, of-or, of-or3, of-not, of-neither, of-over, of-any, of-two, same}
 use Rattle.facts.proofs.Sizes.{of-within20, of-within24, of-range}
 use Rattle.facts.proofs.Rows.{firstRow, Met, InOrder, first-met, met-first, none-met, met-none, Apart, row, of-row}

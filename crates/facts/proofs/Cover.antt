@@ -24,7 +24,8 @@ use Rattle.pieces.specs.Pieces.{netOf, netsOf}
 use Rattle.pieces.proofs.Lengths.{length-net, length-nets, net-at}
 use Rattle.curves.specs.Curves.{pieceCount, piecesOf}
 use Rattle.questions.specs.Questions.{rangeFits}
-use Rattle.facts.specs.Faults.{Line, admission, bounds}
+use Rattle.lines.specs.Lines.{Line}
+use Rattle.facts.specs.Faults.{admission, bounds}
 use Rattle.facts.specs.Cover.{cutsFrom, cutsOf, netsIn}
 use Rattle.facts.proofs.Reflect.{is-true, as-true, both}
 use Rattle.facts.proofs.Sizes.{of-within20}

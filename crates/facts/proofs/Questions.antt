@@ -15,7 +15,8 @@ use Rattle.knots.specs.Knots.{breaksOf}
 use Rattle.questions.specs.declared.Asked.{Asked}
 use Rattle.questions.specs.declared.Asked.the-variants.{Fine, RangeOutOfBounds, GapOutOfRange, TooManySplits, BreaksTooClose}
 use Rattle.questions.specs.Questions.{askedNumber, askedLine, rangeFits, parted, askWithin}
-use Rattle.facts.specs.Faults.{Line, admission, bounds, Question, Fault15, Fault16, Fault18, QuestionFault, Earlier, asked, askedPlace, FirstQuestionFault}
+use Rattle.lines.specs.Lines.{Line, Question}
+use Rattle.facts.specs.Faults.{admission, bounds, Fault15, Fault16, Fault18, QuestionFault, Earlier, asked, askedPlace, FirstQuestionFault}
 use Rattle.facts.proofs.Reflect.{Tests, of-T, of-lt, of-not, of-both, of-two, same}
 use Rattle.facts.proofs.Sizes.{of-range, within-finite}
 use Rattle.facts.proofs.Cover.{range-fine}

@@ -8,7 +8,7 @@ use Rattle.floats.specs.Stations.{Cut}
 use Rattle.poles.specs.Poles.{homogeneousPoles}
 use Rattle.knots.specs.Knots.{flatKnots, between}
 use Rattle.pieces.specs.Pieces.{netOf}
-use Rattle.facts.specs.Faults.{Line}
+use Rattle.lines.specs.Lines.{Line}
 
 -- a cut at each of these breaks, the first piece starting at t0
 unfoldable pub cutsFrom : ℕ → List Float → List Float → List Float → Float → List Float → List Cut

@@ -11,7 +11,8 @@ use Rattle.lines.specs.Admit.{admissionNumber}
 use Rattle.questions.specs.declared.Asked.the-variants.{Fine}
 use Rattle.questions.specs.Questions.{rangeFits}
 use Rattle.curves.specs.Curves.{piecesOf}
-use Rattle.facts.specs.Faults.{Line, admission, LineFault, FirstLineFault, Question, asked, askedPlace, bounds, QuestionFault, FirstQuestionFault}
+use Rattle.lines.specs.Lines.{Line, Question}
+use Rattle.facts.specs.Faults.{admission, LineFault, FirstLineFault, asked, askedPlace, bounds, QuestionFault, FirstQuestionFault}
 use Rattle.facts.specs.Cover.{cutsOf, netsIn}
 
 -- "When, and only then", numbers 4 to 14: a line gets a number exactly if that row is the first that it meets, and is admitted exactly if it meets none.

@@ -12,6 +12,7 @@ use Rattle.floats.specs.Floats.{zero64, middle}
 use Rattle.floats.specs.Sizes.{Within}
 use Rattle.points.specs.declared.Interval.{Interval}
 use Rattle.lines.specs.declared.Admission.{Admission}
+use Rattle.lines.specs.Lines.{Line, Question}
 use Rattle.lines.specs.Admit.{one1024th, two10, two24, inner, admitOf}
 use Rattle.knots.specs.Knots.{boundsOf, breaksOf}
 use Rattle.questions.specs.declared.Asked.{Asked}
@@ -28,14 +29,6 @@ abbrev pub Finite : Float → Type 0
 Finite nan = ⊥
 Finite (inf s) = ⊥
 Finite (fin s m e) = Unit {0}
-
--- a line as it comes to `admit`
-pub record Line : Type 0 where
-  pub degree : ℕ
-  pub knots : List Float
-  pub mults : List ℕ
-  pub coords : List Float
-  pub weights : List Float
 
 -- three coordinates a pole
 abbrev pub poles : Line → ℕ
@@ -98,17 +91,6 @@ admission l = admitOf (l .degree) (l .knots) (l .mults) (l .coords) (l .weights)
 -- the first row that the line meets has number n
 abbrev pub FirstLineFault : ℕ → Line → Type 0
 FirstLineFault n l = LineFault n l × ((k : ℕ) → k < n → LineFault k l → ⊥)
-
--- a question about two lines
-pub record Question : Type 0 where
-  pub line1 : Line
-  pub lo1 : Float
-  pub hi1 : Float
-  pub line2 : Line
-  pub lo2 : Float
-  pub hi2 : Float
-  pub gap : Float
-  pub splits : ℕ
 
 abbrev pub bounds : Line → Interval
 bounds l = boundsOf (l .degree) (l .knots) (l .mults)

@@ -1,2 +1,3 @@
 pub mod Admit
 pub mod Counts
+pub mod Lines

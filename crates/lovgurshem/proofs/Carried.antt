@@ -10,7 +10,8 @@ use Rattle.floats.specs.Stations.{Piece}
 use Rattle.machine.specs.Machine.{limit}
 use Rattle.verdicts.specs.declared.Verdict.{Verdict}
 use Rattle.verdicts.specs.declared.Verdict.the-variants.{Settled, Split, Unseparated}
-use Rattle.facts.specs.Faults.{Question, admission, asked}
+use Rattle.lines.specs.Lines.{Question}
+use Rattle.facts.specs.Faults.{admission, asked}
 use Rattle.states.specs.declared.State.{State}
 use Rattle.states.specs.States.{Memory, sizes, needed, enough, depthAt, isSearch, over}
 use Rattle.nodes.specs.Geometry.{Geometry}

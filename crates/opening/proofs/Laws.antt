@@ -20,7 +20,8 @@ use Rattle.lines.specs.Admit.{two24}
 use Rattle.questions.specs.Questions.{rangeFits, askWithin}
 use Rattle.knots.specs.Knots.{breaksOf}
 use Rattle.curves.specs.Curves.{pieceCount}
-use Rattle.facts.specs.Faults.{Question, admission, asked, bounds}
+use Rattle.lines.specs.Lines.{Question}
+use Rattle.facts.specs.Faults.{admission, asked, bounds}
 use Rattle.pairs.specs.Nodes.{HasPieces}
 use Rattle.pairs.specs.Pairs.{Pieces, pieces, pairsFrom, nets1Of, nets2Of, rangesOf, depthsOf}
 use Rattle.states.specs.declared.State.{State}

@@ -14,7 +14,7 @@ use Rattle.poles.specs.Poles.{homogeneousPoles}
 use Rattle.knots.specs.Knots.{flatKnots, between, breaksOf}
 use Rattle.pieces.specs.Pieces.{netOf}
 use Rattle.curves.specs.Curves.{pieceCount, piecesOf}
-use Rattle.facts.specs.Faults.{Line, Question}
+use Rattle.lines.specs.Lines.{Line, Question}
 use Rattle.facts.specs.Cover.{cutsFrom, cutsOf}
 use Rattle.facts.proofs.Cover.{piece-at}
 use Rattle.pairs.specs.Pairs.{Pair, Pieces, pieces, netAt, boxAt, rowFrom, pairsFrom, nets1Of, nets2Of, rangesOf, depthsOf}

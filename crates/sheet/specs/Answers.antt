@@ -7,9 +7,8 @@ use lib.ListN.{length, replicate}
 use lib.Ieee.{Float}
 use Rattle.lists.specs.Parts.{patch}
 use Rattle.floats.specs.Floats.{zero64}
-use Rattle.facts.specs.Faults.{Line, Question}
+use Rattle.lines.specs.Lines.{Question}
 use Rattle.walks.specs.Words.{floatAt}
-use Rattle.walks.specs.Sheets as walks
 use Rattle.walks.specs.Sheets.{Walked, walked, refusedAs, walkOf}
 use Rattle.states.specs.declared.State.{State}
 use Rattle.states.specs.States.{Memory, memory}
@@ -24,7 +23,7 @@ use Rattle.report.specs.Reports.{reportedNumber, reportDef}
 use Rattle.opening.specs.declared.Question.{Question as Asking}
 use Rattle.opening.specs.declared.Opened.{Opened}
 use Rattle.opening.specs.declared.Opened.the-variants.{Open, BadLine, BadQuestion, NoRoom as NoOpenRoom}
-use Rattle.opening.specs.Opens.{openedNumber, openedLine, lineOf, openDef}
+use Rattle.opening.specs.Opens.{openedNumber, openedLine, openDef}
 use Rattle.printing.specs.Printed.{countLine, regionLines, refusalLine}
 
 -- ---- "It lends 8,112 floats a line for pieces, 7,904 a line for nets, 304 for ranges, 76 depths, 8,190 each for raw and report": zeros
@@ -67,19 +66,13 @@ unfoldable pub linesText : Question → List ℕ
 linesText q = let o = openDef q (zeros 8112) (zeros 8112) lent in openedText (o .answer) (o .memory) (zeros 8190)
 
 -- ---- the sheet
-abbrev pub lineIn : walks.Line → Line
-lineIn l = lineOf (l .degree) (l .knots) (l .mults) (l .coords) (l .weights)
-
-abbrev pub questionIn : walks.Sheet → Question
-questionIn x = record { line1 = lineIn (x .first); lo1 = x .lo1; hi1 = x .hi1; line2 = lineIn (x .second); lo2 = x .lo2; hi2 = x .hi2; gap = x .gap; splits = x .splits }
-
 -- "6 question (N is S; then lo, hi, lo, hi, gap as floats)", the floats at place `at` (`question_at`)
 unfoldable pub askingAt : List ℕ → ℕ → ℕ → Asking
 askingAt s at n = record { lo1 = floatAt s at; hi1 = floatAt s (at + 8); lo2 = floatAt s (at + 16); hi2 = floatAt s (at + 24); gap = floatAt s (at + 32); splits = n }
 
 -- "The sheet is walked whole before 4"
 abbrev pub walkedText : Walked → List ℕ
-walkedText (walked x) = linesText (questionIn x)
+walkedText (walked q) = linesText q
 walkedText (refusedAs n) = refusalLine n 0
 
 -- from the bytes on standard input to those on standard output (`answer`)

@@ -5,9 +5,9 @@ ghost use lib.ListN.{length};
 ghost use Rattle.lists.specs.Parts.{patch};
 ghost use Rattle.opening.specs.Opens.{lineOf, questionOf};
 ghost use Rattle.states.specs.States.{memory};
-ghost use Rattle.walks.specs.Places.{lineIn as walkedLine, LineInside};
+ghost use Rattle.walks.specs.Places.{lineIn, LineInside};
 ghost use Rattle.texts.specs.Texts.{Wrote};
-ghost use Rattle.sheet.specs.Answers.{zeros, zeroDepths, reportText, searchText, linesText, lineIn, askingAt, answerOf, answerLength, answerIn};
+ghost use Rattle.sheet.specs.Answers.{zeros, zeroDepths, reportText, searchText, linesText, askingAt, answerOf, answerLength, answerIn};
 use opening::Opened;
 use opening::Question;
 use report::Reported;
@@ -205,7 +205,7 @@ fn answer_second(
 ) -> usize
     requires { ⌜ (145169 ≤ length (now out)) × (length (now s) ≤ 16384) × LineInside (length (now s)) l ⌝ }
     ensures { λ r. ⌜ (let l1 = lineOf degree1 (now (knots1 .entry)) (now (mults1 .entry)) (now (coords1 .entry)) (now (weights1 .entry)) in
-        let l2 = lineIn (walkedLine (now (s .entry)) l) in
+        let l2 = lineIn (now (s .entry)) l in
         Wrote (now (out .entry)) 0 (linesText (questionOf q l1 l2)) (now (out .exit)) r) ⌝ }
 {
     let mut knots = float_room();
@@ -236,8 +236,8 @@ fn answer_second(
 // The first line read, then the second.
 fn answer_first(s: &[u8], q: Question, l: Line, second: Line, out: &mut [u8]) -> usize
     requires { ⌜ (145169 ≤ length (now out)) × (length (now s) ≤ 16384) × LineInside (length (now s)) l × LineInside (length (now s)) second ⌝ }
-    ensures { λ r. ⌜ (let l1 = lineIn (walkedLine (now (s .entry)) l) in
-        let l2 = lineIn (walkedLine (now (s .entry)) second) in
+    ensures { λ r. ⌜ (let l1 = lineIn (now (s .entry)) l in
+        let l2 = lineIn (now (s .entry)) second in
         Wrote (now (out .entry)) 0 (linesText (questionOf q l1 l2)) (now (out .exit)) r) ⌝ }
 {
     let mut knots = float_room();

@@ -3,8 +3,9 @@ use mathlib.Core.Path.{_≡_, refl}
 use mathlib.Core.List.{List, [], _∷_, _++_}
 use Prim.Native.Nat.{ℕ, _+_, _*_, _/_, _%_}
 use lib.Ieee.{Float, binary64, ofBits}
+use Rattle.lines.specs.Lines.{Line}
 use Rattle.walks.specs.Words.{wordAt, floatAt, wordsFrom, floatsFrom}
-use Rattle.walks.specs.Sheets.{Line, walked, refusedAs, badLength, badCount, sizeOf, partOf, weightsOf, lineOf, walkOf}
+use Rattle.walks.specs.Sheets.{walked, refusedAs, badLength, badCount, sizeOf, partOf, weightsOf, lineOf, walkOf}
 
 -- words as bytes; a word of kind k and count n; the floats 0 and 1 as words
 abbrev bytes : List ℕ → List ℕ
@@ -35,7 +36,7 @@ line = record { degree = 1; knots = zeroF ∷ oneF ∷ []; mults = 2 ∷ 2 ∷ [
 
 -- "given twice, whole ranges, gap 0, S 0"
 pub given-twice : walkOf (bytes (straight ++ straight ++ (head 6 0 ∷ []) ++ nought ++ one ++ nought ++ one ++ nought ++ (head 7 0 ∷ [])))
-    ≡ walked (record { first = line; second = line; splits = 0; lo1 = zeroF; hi1 = oneF; lo2 = zeroF; hi2 = oneF; gap = zeroF })
+    ≡ walked (record { line1 = line; lo1 = zeroF; hi1 = oneF; line2 = line; lo2 = zeroF; hi2 = oneF; gap = zeroF; splits = 0 })
 unfolding walkOf lineOf weightsOf partOf sizeOf badCount badLength floatsFrom wordsFrom floatAt wordAt ofBits
 given-twice = refl
 

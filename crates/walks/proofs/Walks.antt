@@ -9,7 +9,7 @@ use lib.ListN.{length}
 use borrow.Author.Tests.{lt-ltb, le-ltb, eq-eqb, ne-eqb}
 use Rattle.walks.specs.Words.{wordAt, kindOf, countOf}
 use Rattle.walks.specs.Sheets.{Walked, walked, refusedAs, badLength, badCount, sizeOf, partOf, weightsOf, lineOf, walkOf}
-use Rattle.walks.specs.Places.{unless, lineIn, sheetIn, SheetInside, PartFits, LineFits}
+use Rattle.walks.specs.Places.{unless, lineIn, questionIn, SheetInside, PartFits, LineFits}
 use Rattle.walks.specs.declared.Part.{Part}
 use Rattle.walks.specs.declared.Line.{Line}
 
@@ -129,10 +129,10 @@ end-zero (suc n) b h = simp (eqb·suc-zero n) at h
 module _ (s : List ℕ) (first last : ℕ) (f g : Line) (q e : Part) (lf : LineFits s first 0 f) (lg : LineFits s (f .no) (f .next) g)
     (lq : PartFits s (g .no) (partOf s 6 (g .next)) (sizeOf 6) q) (le : PartFits s (q .no) (partOf s 7 (q .next)) (sizeOf 7) e) where
   pub sheet-says : first ≡ cond (badLength (length s)) 1 0 → last ≡ cond (eqb (e .no) 0) (cond (eqb (e .next) (length s)) 0 3) (e .no)
-      → walkOf s ≡ unless last (walked (sheetIn s (record { no = last; first = f; second = g; splits = q .count; asked = q .at })))
-  unfolding walkOf sheetIn
+      → walkOf s ≡ unless last (walked (questionIn s (record { no = last; first = f; second = g; splits = q .count; asked = q .at })))
+  unfolding walkOf questionIn
   sheet-says a b =
-      let w : Walked = walked (sheetIn s (record { no = last; first = f; second = g; splits = q .count; asked = q .at })) in
+      let w : Walked = walked (questionIn s (record { no = last; first = f; second = g; splits = q .count; asked = q .at })) in
       begin (badLength (length s)) _ a ∙ lf .says _ ∙ lg .says _ ∙ lq .says _ ∙ le .says _ ∙ end (e .no) (eqb (e .next) (length s)) w b
 
   pub sheet-inside : last ≡ cond (eqb (e .no) 0) (cond (eqb (e .next) (length s)) 0 3) (e .no) → last ≡ 0

@@ -5,8 +5,8 @@ use mathlib.Core.Bool.{cond}
 use mathlib.Core.List.{List}
 use lib.Dec.{eqb}
 use lib.ListN.{length}
+use Rattle.lines.specs.Lines as given
 use Rattle.walks.specs.Words.{floatAt, wordsFrom, floatsFrom}
-use Rattle.walks.specs.Sheets as said
 use Rattle.walks.specs.Sheets.{Walked, refusedAs, lineOf}
 use Rattle.walks.specs.declared.Part.{Part}
 use Rattle.walks.specs.declared.Line.{Line}
@@ -16,8 +16,8 @@ use Rattle.walks.specs.declared.Sheet.{Sheet}
 unfoldable pub unless : ℕ → Walked → Walked
 unless n w = cond (eqb n 0) w (refusedAs n)
 
--- the line, and the sheet, that stand at these places
-unfoldable pub lineIn : List ℕ → Line → said.Line
+-- the line, and the question about two lines, that stand at these places
+unfoldable pub lineIn : List ℕ → Line → given.Line
 lineIn s l =
     record {
       degree = l .degree;
@@ -27,17 +27,17 @@ lineIn s l =
       weights = floatsFrom s (l .weights .at) (l .weights .count);
     }
 
-unfoldable pub sheetIn : List ℕ → Sheet → said.Sheet
-sheetIn s r =
+unfoldable pub questionIn : List ℕ → Sheet → given.Question
+questionIn s r =
     record {
-      first = lineIn s (r .first);
-      second = lineIn s (r .second);
-      splits = r .splits;
+      line1 = lineIn s (r .first);
       lo1 = floatAt s (r .asked);
       hi1 = floatAt s (r .asked + 8);
+      line2 = lineIn s (r .second);
       lo2 = floatAt s (r .asked + 16);
       hi2 = floatAt s (r .asked + 24);
       gap = floatAt s (r .asked + 32);
+      splits = r .splits;
     }
 
 -- each part lies inside n bytes, so that it can be read
@@ -60,6 +60,6 @@ pub record PartFits (s : List ℕ) (n : ℕ) (walk : (ℕ → ℕ → ℕ → Wa
   pub fits : p .no ≡ 0 → (n ≡ 0) × (p .at + size (p .count) ≤ length s)
 
 pub record LineFits (s : List ℕ) (n at : ℕ) (l : Line) : Type 0 where
-  pub says : (go : said.Line → ℕ → Walked) → unless n (lineOf s at go) ≡ unless (l .no) (go (lineIn s l) (l .next))
+  pub says : (go : given.Line → ℕ → Walked) → unless n (lineOf s at go) ≡ unless (l .no) (go (lineIn s l) (l .next))
   pub before : l .next ≤ length s
   pub fits : l .no ≡ 0 → (n ≡ 0) × LineInside (length s) l

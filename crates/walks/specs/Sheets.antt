@@ -4,31 +4,12 @@ use mathlib.Core.Bool.{Bool, cond, not, _&&_, _||_}
 use mathlib.Core.List.{List}
 use lib.Dec.{ltb, eqb}
 use lib.ListN.{length}
-use lib.Ieee.{Float}
+use Rattle.lines.specs.Lines.{Line, Question}
 use Rattle.walks.specs.Words.{wordAt, kindOf, countOf, floatAt, wordsFrom, floatsFrom}
 
--- a line: its degree, knots, multiplicities, poles as x, y, z in turn, and weights, none of which there may be
-pub record Line : Type 0 where
-  pub degree : ℕ
-  pub knots : List Float
-  pub mults : List ℕ
-  pub coords : List Float
-  pub weights : List Float
-
--- two lines and the question: S, a range of each line, and the gap
-pub record Sheet : Type 0 where
-  pub first : Line
-  pub second : Line
-  pub splits : ℕ
-  pub lo1 : Float
-  pub hi1 : Float
-  pub lo2 : Float
-  pub hi2 : Float
-  pub gap : Float
-
--- what `walk` finds: a sheet, or the number that refuses it
+-- what `walk` finds: the lines and the question of a sheet, or the number that refuses it
 pub data Walked : Type 0 where
-  walked : Sheet → Walked
+  walked : Question → Walked
   refusedAs : ℕ → Walked
 
 -- number 1: "its length is 0, no multiple of 4, or over 16,384 bytes" (`length_no`)
@@ -77,12 +58,12 @@ walkOf s =
     partOf s 7 c (λ none here d.
     cond (not (eqb d (length s))) (refusedAs 3)
     (walked (record {
-      first = first;
-      second = second;
-      splits = n;
+      line1 = first;
       lo1 = floatAt s q;
       hi1 = floatAt s (q + 8);
+      line2 = second;
       lo2 = floatAt s (q + 16);
       hi2 = floatAt s (q + 24);
       gap = floatAt s (q + 32);
+      splits = n;
     })))))))

@@ -8,7 +8,7 @@ ghost use lib.Ieee.{binary64, ofBits};
 ghost use Rattle.lists.specs.Parts.{patch};
 ghost use Rattle.walks.specs.Words.{wordAt, floatAt, wordsFrom, floatsFrom};
 ghost use Rattle.walks.specs.Sheets.{walked, badCount, badLength, sizeOf, partOf, weightsOf, walkOf};
-ghost use Rattle.walks.specs.Places.{unless, sheetIn, LineInside, PartFits, LineFits, SheetInside};
+ghost use Rattle.walks.specs.Places.{unless, questionIn, LineInside, PartFits, LineFits, SheetInside};
 
 // A counted part: the number that refuses the sheet or 0, the count in its word, where it starts, and the place behind it.
 pub struct Part {
@@ -260,7 +260,7 @@ fn tail_no(s: &[u8], no: u8, next: usize) -> u8
 
 // The parts of any bytes that are a sheet, or the number that refuses them.
 pub fn walk(s: &[u8]) -> Sheet
-    ensures { λ r. ⌜ walkOf (now (s .entry)) ≡ unless (r .no) (walked (sheetIn (now (s .entry)) r)) ⌝ }
+    ensures { λ r. ⌜ walkOf (now (s .entry)) ≡ unless (r .no) (walked (questionIn (now (s .entry)) r)) ⌝ }
     ensures { λ r. ⌜ (r .no ≡ 0 → SheetInside (length (now (s .entry))) r) ⌝ }
 {
     let first = line_after(s, length_no(s.len()), 0);

@@ -8,7 +8,7 @@ use lib.Dec.{ltb, eqb, lit≤}
 use lib.ListN.{length}
 use Rattle.lines.specs.Admit.{admissionNumber}
 use Rattle.questions.specs.Questions.{askedNumber, askedLine}
-use Rattle.facts.specs.Faults.{Question}
+use Rattle.lines.specs.Lines.{Line, Question}
 use Rattle.regions.specs.declared.Word.{Word}
 use Rattle.states.specs.declared.State.{State}
 use Rattle.states.specs.States.{Memory, sizes}
@@ -26,8 +26,8 @@ use Rattle.coverage.proofs.Refine.{room-of}
 use Rattle.coverage.proofs.Demand3.{opened-fresh}
 use Rattle.coverage.proofs.Complete.{loop-ends, complete-is-clear, loop-reports}
 use Rattle.walks.specs.Words.{wordAt, kindOf, countOf}
-use Rattle.walks.specs.Sheets.{Line, Sheet, Walked, walked, refusedAs, badLength, badCount, sizeOf, partOf, weightsOf, lineOf, walkOf}
-use Rattle.sheet.specs.Answers.{zeros, lent, reportedText, reportText, steppedText, searchText, openedText, linesText, questionIn, walkedText, answerOf}
+use Rattle.walks.specs.Sheets.{Walked, walked, refusedAs, badLength, badCount, sizeOf, partOf, weightsOf, lineOf, walkOf}
+use Rattle.sheet.specs.Answers.{zeros, lent, reportedText, reportText, steppedText, searchText, openedText, linesText, walkedText, answerOf}
 use Rattle.whole.specs.Whole.{Printed, refused, reported, Whole}
 
 -- ---- the walk refuses with 1, 2 or 3
@@ -67,7 +67,7 @@ module _ (s : List ℕ) where
   unfolding walkOf
   few-walk = by (badLength (length s)) _ (few-line 0 _ (λ l a. few-line a _ (λ k b. few-part 6 b _ (λ n q c. few-part 7 c _ (λ m h d. end (not (eqb d (length s))) _)))))
     where
-      end : (b : Bool) (x : Sheet) → Few (cond b (refusedAs 3) (walked x))
+      end : (b : Bool) (x : Question) → Few (cond b (refusedAs 3) (walked x))
       end true x = (lit≤ tt, lit≤ tt)
       end false x = tt
 
@@ -81,25 +81,22 @@ raw-room q x e =
     opened-fresh q (zeros 8112) (zeros 8112) lent x (λ (y : State) (m : Memory). y .pairs * suc (y .quota) * 10 ≤ length (zeros 8190))
     (λ F room. room-of (searchFor q) (sizes lent) room .raw) e
 
-module _ (s : List ℕ) (y : Sheet) (walk : walkOf s ≡ walked y) where
-  q : Question
-  q = questionIn y
-
+module _ (s : List ℕ) (q : Question) (walk : walkOf s ≡ walked q) where
   o : Opening
   o = openDef q (zeros 8112) (zeros 8112) lent
 
   printed-lines : answerOf s ≡ openedText (o .answer) (o .memory) (zeros 8190)
-  unfolding answerOf linesText q o
+  unfolding answerOf linesText o
   printed-lines = ap walkedText walk
 
   open-printed : (x : State) → o .answer ≡ Open x → Printed s
-  unfolding searchText reportText q o
+  unfolding searchText reportText o
   open-printed x e =
       let L = loop-ends q (zeros 8112) (zeros 8112) lent x e in
       let m = runDef geometry x (o .memory) .memory in
       let r = reportDef geometry (L .last) m (zeros 8190) in
       let R = loop-reports q (zeros 8112) (zeros 8112) lent x (L .last) e (L .answer) (zeros 8190) (raw-room q x e) in
-      reported y walk r R
+      reported q walk r R
       (printed-lines ∙ ap (λ (a : Opened). openedText a (o .memory) (zeros 8190)) e ∙ ap (λ (a : Stepped). steppedText a m (zeros 8190)) (L .answer)
       ∙ ap (λ (a : Reported). reportedText a (r .slice)) (R .told))
       (λ c. complete-is-clear q (zeros 8112) (zeros 8112) lent x (L .last) e (L .answer) (zeros 8190) (R .counts) (R .regions)
@@ -115,7 +112,7 @@ module _ (s : List ℕ) (y : Sheet) (walk : walkOf s ≡ walked y) where
   opened-printed NoRoom e n = refused 19 0 (lit≤ tt) (lit≤ tt) (lit≤ tt) (printed-lines ∙ ap (λ (a : Opened). openedText a (o .memory) (zeros 8190)) e)
 
   walked-printed : Printed s
-  unfolding q o
+  unfolding o
   walked-printed = opened-printed (o .answer) refl (opening-numbered q (zeros 8112) (zeros 8112) lent)
 
 pub whole : Whole
