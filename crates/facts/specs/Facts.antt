@@ -6,12 +6,12 @@ use Prim.Native.Nat.{ℕ, _<_}
 use lib.Ieee.{Float}
 use Rattle.lists.specs.Members.{Any}
 use Rattle.floats.specs.Stations.{InRange, Piece, piecesFrom}
+use Rattle.lines.specs.Lines.{Line, Question}
 use Rattle.lines.specs.declared.Admission.the-variants.{Admitted}
 use Rattle.lines.specs.Admit.{admissionNumber}
 use Rattle.questions.specs.declared.Asked.the-variants.{Fine}
 use Rattle.questions.specs.Questions.{rangeFits}
 use Rattle.curves.specs.Curves.{piecesOf}
-use Rattle.lines.specs.Lines.{Line, Question}
 use Rattle.facts.specs.Faults.{admission, LineFault, FirstLineFault, asked, askedPlace, bounds, QuestionFault, FirstQuestionFault}
 use Rattle.facts.specs.Cover.{cutsOf, netsIn}
 

@@ -1,4 +1,4 @@
--- What the functions below a step write, slice by slice, and the room that they have. Cited by private functions only.
+-- What the functions below a step write, slice by slice, and the room that they have. Cited by inner functions only.
 use mathlib.Core.Path.{_≡_}
 use mathlib.Core.List.{List, [], _∷_, _++_}
 use mathlib.Core.Bool.{Bool, true, false, cond}

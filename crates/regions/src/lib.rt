@@ -32,13 +32,13 @@ pub enum Word {
 }
 
 // What one pass leaves: the region as grown, and how many stay.
-pub struct Swept {
-    pub grown: Region,
-    pub kept: usize,
+struct Swept {
+    grown: Region,
+    kept: usize,
 }
 
 // Whether two closed ranges meet.
-pub fn meet(a0: f64, a1: f64, b0: f64, b1: f64) -> bool
+fn meet(a0: f64, a1: f64, b0: f64, b1: f64) -> bool
     ensures { λ r. ⌜ r ≡ meetOf a0 a1 b0 b1 ⌝ }
 {
     if a0 <= b1 {
@@ -48,7 +48,7 @@ pub fn meet(a0: f64, a1: f64, b0: f64, b1: f64) -> bool
 }
 
 // Whether the ranges of both lines meet; the boxes take no part.
-pub fn touches(a: Region, b: Region) -> bool
+fn touches(a: Region, b: Region) -> bool
     ensures { λ r. ⌜ r ≡ touchesOf a b ⌝ }
 {
     if meet(a.a0, a.a1, b.a0, b.a1) {
@@ -58,7 +58,7 @@ pub fn touches(a: Region, b: Region) -> bool
 }
 
 // The smallest ranges and the smallest box that hold both.
-pub fn union(a: Region, b: Region) -> Region
+fn union(a: Region, b: Region) -> Region
     ensures { λ r. ⌜ r ≡ unionOf a b ⌝ }
 {
     Region {
@@ -87,7 +87,7 @@ pub fn store(s: &mut [f64], i: usize, r: Region)
 }
 
 // The region in the i-th place of ten floats.
-pub fn load(s: &[f64], i: usize) -> Region
+fn load(s: &[f64], i: usize) -> Region
     requires { ⌜ (i + 1) * 10 ≤ length (now s) ⌝ }
     ensures { λ r. ⌜ r ≡ regionAt (block 10 i (now (s .entry))) ⌝ }
 {

@@ -133,7 +133,7 @@ pub fn step(
 }
 
 // A step with the search's own verdict: what `own_verdict` and then `step` do, with the nets divided once, into the room p and q.
-fn own_step_in(
+fn own_step(
     st: State,
     nets1: &mut [f64],
     nets2: &mut [f64],
@@ -172,24 +172,6 @@ fn own_step_in(
     }
 }
 
-// The same in room of its own.
-pub fn own_step(
-    st: State,
-    nets1: &mut [f64],
-    nets2: &mut [f64],
-    ranges: &mut [f64],
-    depths: &mut [u8],
-    raw: &mut [f64],
-) -> Stepped
-    ensures { λ r. ⌜ _≡_ {A = Stepping}
-        (stepping r (memory (now (nets1 .exit)) (now (nets2 .exit)) (now (ranges .exit)) (now (depths .exit)) (now (raw .exit))))
-        (ownStepDef geometry st (memory (now (nets1 .entry)) (now (nets2 .entry)) (now (ranges .entry)) (now (depths .entry)) (now (raw .entry)))) ⌝ }
-{
-    let mut p = boxes::scratch();
-    let mut q = boxes::scratch();
-    own_step_in(st, nets1, nets2, ranges, depths, raw, &mut p, &mut q)
-}
-
 // ---- the loop
 
 // Steps with the search's own verdicts until the search ends; the state then, or the refusal of a step.
@@ -209,7 +191,7 @@ pub fn run(
     let mut q = boxes::scratch();
     let mut s = st;
     while !states::ended(s) {
-        let out = own_step_in(s, nets1, nets2, ranges, depths, raw, &mut p, &mut q);
+        let out = own_step(s, nets1, nets2, ranges, depths, raw, &mut p, &mut q);
         match out {
             Stepped::Next(next) => {
                 s = next;

@@ -44,7 +44,7 @@ fn wide(x: u8) -> u32
     x as u32
 }
 
-pub fn word(s: &[u8], at: usize) -> u32
+fn word(s: &[u8], at: usize) -> u32
     requires { ⌜ at + 4 ≤ length (now s) ⌝ }
     ensures { λ r. ⌜ (r ≡ wordAt (now (s .entry)) at) × (r < 4294967296) ⌝ }
 {
@@ -52,7 +52,7 @@ pub fn word(s: &[u8], at: usize) -> u32
 }
 
 // The float of any pattern: a NaN's pattern is never handed to `from_bits`.
-pub fn float(n: u64) -> f64
+fn float(n: u64) -> f64
     ensures { λ r. ⌜ r ≡ ofBits binary64 n ⌝ }
 {
     if n % 0x8000_0000_0000_0000 > 0x7ff0_0000_0000_0000 {
@@ -71,7 +71,7 @@ pub fn float_at(s: &[u8], at: usize) -> f64
 }
 
 // The first `n` of `out` become the floats from `at` on.
-pub fn read_floats(s: &[u8], at: usize, n: usize, out: &mut [f64])
+fn read_floats(s: &[u8], at: usize, n: usize, out: &mut [f64])
     requires { ⌜ (at + 8 * n ≤ length (now s)) × (n ≤ length (now out)) ⌝ }
     ensures { λ r. ⌜ now (out .exit) ≡ patch (now (out .entry)) 0 (floatsFrom (now (s .entry)) at n) ⌝ }
 {
@@ -83,7 +83,7 @@ pub fn read_floats(s: &[u8], at: usize, n: usize, out: &mut [f64])
 }
 
 // The first `n` of `out` become the words from `at` on.
-pub fn read_words(s: &[u8], at: usize, n: usize, out: &mut [u32])
+fn read_words(s: &[u8], at: usize, n: usize, out: &mut [u32])
     requires { ⌜ (at + 4 * n ≤ length (now s)) × (n ≤ length (now out)) ⌝ }
     ensures { λ r. ⌜ now (out .exit) ≡ patch (now (out .entry)) 0 (wordsFrom (now (s .entry)) at n) ⌝ }
 {
