@@ -1,9 +1,9 @@
 -- The loop gives each step the search's own verdict: it comes to the end, and every node that it settled passes the tests. Assumes nothing.
 use mathlib.Core.Path.{_≡_, refl, ap, sym, _∙_, subst}
 use mathlib.Core.Logic.{_⊎_, inl, inr}
-use mathlib.Core.List.{List, [], _∷_, map}
+use mathlib.Core.List.{List, [], _∷_, _++_}
 use mathlib.Core.Bool.{Bool, true, false, _&&_, cond, false≢true}
-use Prim.Native.Nat.{ℕ, zero, suc, _+_, _*_, _≤_, _<_}
+use Prim.Native.Nat.{ℕ, zero, suc, _+_, _*_, _≤_, _<_, min}
 use borrow.Author.Tests.{le-leb}
 use native.Mathlib.Omega.{arith}
 use lib.Dec.{T, leb}
@@ -17,14 +17,15 @@ use Rattle.machine.specs.Merge.{merged}
 use Rattle.machine.specs.Covered.{SetApart, Covered, byBoxes, bySettled, byGiven, byWaiting}
 use Rattle.regions.specs.declared.Word.{Word}
 use Rattle.regions.specs.declared.Word.the-variants.{Complete}
-use Rattle.regions.specs.Regions.{merging}
+use Rattle.regions.specs.Regions.{merging, flats}
 use Rattle.regions.specs.Reports.{wordFor, reportSlice}
 use Rattle.states.specs.declared.State.{State}
 use Rattle.states.specs.declared.Counts.{Counts}
-use Rattle.states.specs.States.{Memory, Sizes, sizes, needed, enough, isSearch, over}
+use Rattle.states.specs.States.{Memory, Sizes, sizes, needed, enough, enoughOwn, isSearch, over}
 use Rattle.search.specs.declared.Stepped.{Stepped}
-use Rattle.search.specs.declared.Stepped.the-variants.{Next}
-use Rattle.search.specs.declared.Own.the-variants.{Is}
+use Rattle.search.specs.declared.Stepped.the-variants.{Next, NoRoom}
+use Rattle.search.specs.declared.Own.{Own}
+use Rattle.search.specs.declared.Own.the-variants.{Is, NoRoom as OwnNoRoom}
 use Rattle.nodes.specs.Geometry.{Geometry}
 use Rattle.nodes.specs.Nets.{geometry}
 use Rattle.search.specs.Steps.{Stepping, stepping, stepDef, ownDef}
@@ -34,21 +35,27 @@ use Rattle.report.specs.declared.Reported.the-variants.{Told, Running, NoRoom a
 use Rattle.report.specs.Reports.{Reporting, reporting, writeReport, reportDef}
 use Rattle.opening.specs.Asked.{Asked, shape, pieces1, pieces2, pairsOf, start, stateOf, tally, rawList, netOf1, netOf2, openMemory}
 use Rattle.opening.specs.Opens.{searchFor}
-use Rattle.coverage.specs.Calls.{Answer, stepped, reported, Outcome, stepOutcome, reportOutcome}
-use Rattle.coverage.specs.Rules.{Ruled}
+use Rattle.coverage.specs.Calls.{Call, step, own as ownCall, Answer, stepped, reported, Outcome, stepOutcome, reportOutcome}
+use Rattle.coverage.specs.Rules.{Ruled, lent, suffices, sufficesOwn, stepRule, ownRule, heard, callRule, ruleAll}
 use Rattle.coverage.specs.Claim.{Fine, GoodReport}
 use Rattle.facts.proofs.Reflect.{as-true}
 use Rattle.states.proofs.Tests.{enough-own}
-use Rattle.coverage.specs.Complete.{Ends, Passes, Clear, Reports, LoopEnds, CompleteIsClear, LoopReports}
-use Rattle.coverage.proofs.Refine.{over-ended, StepSim, unchanged, moved, search, ruleWith, step-sim}
+use Rattle.coverage.specs.Complete.{turnCalls, loopCalls, looped, Ends, Passes, Clear, Reports, LoopEnds, CompleteIsClear, LoopReports, OneReport, NotClear}
+use Rattle.coverage.proofs.Refine.{StepSim, unchanged, moved, search, ruleWith, step-sim}
 use Rattle.coverage.proofs.Chain.{Inv, own-fields, hear-inv, reportWith, report-fields}
 use Rattle.coverage.proofs.Opening.{open-inv}
-use Rattle.coverage.proofs.Final.{Ok, Cleared, ok-advance, ok-hear, ok-start, word-exact, good-report}
+use Rattle.coverage.proofs.Final.{Ok, Cleared, ok-advance, ok-hear, ok-start, stay-all, word-exact, good-report}
 use Rattle.coverage.proofs.Demand3.{opened-fresh}
 
 -- every settled node was settled on the own verdict
 abbrev AllOwn : (q : Asked) → List (Settling (shape q)) → Type 0
 AllOwn q l = All (λ (e : Settling (shape q)). T (e .own)) l
+
+min-same : (n : ℕ) → min n n ≡ n
+min-same n = omega arith
+
+lent-whole : (n : Sizes) → lent n n ≡ n
+lent-whole n = λ i. record { nets1 = min-same (n .nets1) i; nets2 = min-same (n .nets2) i; ranges = min-same (n .ranges) i; depths = min-same (n .depths) i; raw = min-same (n .raw) i }
 
 -- what each step lowers, unless it ends the search
 abbrev rest : (q : Asked) → Search (shape q) → ℕ
@@ -60,13 +67,17 @@ next-of a b e = cc
 module _ (q : Asked) (low : (w : ℕ) (l : List Float) → length l ≡ 4 * w → length (q .geometry .lowerNet l) ≡ 4 * w)
     (upp : (w : ℕ) (l : List Float) → length l ≡ 4 * w → length (q .geometry .upperNet l) ≡ 4 * w)
     (full : Sizes) (room : enough (needed (stateOf q (start q))) full ≡ true) where
-  record Looped (o : Stepping) : Type 0 where
-    last : Search (shape q)
-    answer : o .answer ≡ Next (stateOf q last)
-    inv : Inv q full last (o .memory)
-    ok : Ok q last
-    own : AllOwn q (last .settled)
-    finished : T (ended (shape q) last)
+  -- the search that the rules make of n turns from the search m
+  abbrev turned-from : ℕ → Search (shape q) → Search (shape q)
+  turned-from n m = ruleAll q full (loopCalls q full n m) m .search
+
+  -- the loop came to the end of the search m
+  record Looped (m : Search (shape q)) (o : Stepping) : Type 0 where
+    answer : o .answer ≡ Next (stateOf q m)
+    inv : Inv q full m (o .memory)
+    ok : Ok q m
+    own : AllOwn q (m .settled)
+    finished : T (ended (shape q) m)
 
   -- a step on the whole memory
   after-sim : (m : Search (shape q)) (u : Memory) (o : Outcome) (r : Ruled q) → Inv q full m u → StepSim q o r m u
@@ -100,16 +111,49 @@ module _ (q : Asked) (low : (w : ℕ) (l : List Float) → length l ≡ 4 * w �
       go false zero h = inl tt
       go false (suc j) h = inr (omega arith)
 
+  -- calls after other calls
+  rule-append : (cs ds : List Call) (m : Search (shape q)) → ruleAll q full (cs ++ ds) m .search ≡ ruleAll q full ds (ruleAll q full cs m .search) .search
+  rule-append [] ds m = refl
+  rule-append (c ∷ cs) ds m = rule-append cs ds (callRule q full c m .search)
+
+  -- one turn, lent the whole memory, as the rules answer it, and the turns after it
+  one-turn : (k : ℕ) (n : Node (shape q)) (r : List (Node (shape q))) (se : List (Settling (shape q))) (gi : List (Node (shape q))) (vi sp un : ℕ) (to : Bool)
+      → let v = q .geometry .clearing (q .gap) (netOf1 q n) (netOf2 q n) in
+      turned-from (suc k) (search q (n ∷ r) se gi vi sp un false to)
+      ≡ turned-from k (advance (shape q) v (search q (n ∷ r) se gi vi sp un false (isSettle (shape q) v)))
+  one-turn k n r se gi vi sp un to =
+      let need = needed (stateOf q (start q)) in
+      let v = q .geometry .clearing (q .gap) (netOf1 q n) (netOf2 q n) in
+      let m0 = search q (n ∷ r) se gi vi sp un false to in
+      let m1 = search q (n ∷ r) se gi vi sp un false (isSettle (shape q) v) in
+      let e1 : sufficesOwn q full full ≡ true = ap (enoughOwn need) (lent-whole full) ∙ enough-own need full room in
+      let e2 : suffices q full full ≡ true = ap (enough need) (lent-whole full) ∙ room in
+      let a : ownRule q full full m0 ≡ Is v = ap (λ (b : Bool). cond b (Is v) OwnNoRoom) e1 in
+      let t : ruleAll q full (turnCalls full (ownRule q full full m0)) m0 .search ≡ ruleAll q full (ownCall full ∷ step v full ∷ []) m0 .search
+      = ap (λ (o : Own). ruleAll q full (turnCalls full o) m0 .search) a in
+      let h : heard q (ownRule q full full m0) m0 ≡ m1 = ap (λ (o : Own). heard q o m0) a in
+      let g : stepRule q full v full m1 .search ≡ advance (shape q) v m1
+      = ap (λ (b : Bool). cond {A = Ruled q} b (record { answer = stepped (Next (stateOf q (advance (shape q) v m1))); search = advance (shape q) v m1 })
+      (record { answer = stepped NoRoom; search = m1 }) .search) e2 in
+      rule-append (turnCalls full (ownRule q full full m0)) _ m0
+      ∙ ap (turned-from k) (t ∙ ap (λ (x : Search (shape q)). stepRule q full v full x .search) h ∙ g)
+
   -- one turn, and the rest of the loop
   turn : (k : ℕ)
       → ((m : Search (shape q)) (u : Memory) → Inv q full m u → Ok q m → AllOwn q (m .settled) → T (ended (shape q) m) ⊎ (rest q m < k)
-      → Looped (runFor (q .geometry) k (stateOf q m) u))
+      → Looped (turned-from k m) (runFor (q .geometry) k (stateOf q m) u))
       → (l : List (Node (shape q))) (se : List (Settling (shape q))) (gi : List (Node (shape q))) (vi sp un : ℕ) (st to : Bool) (u : Memory)
       → Inv q full (search q l se gi vi sp un st to) u → Ok q (search q l se gi vi sp un st to) → AllOwn q se
       → T (ended (shape q) (search q l se gi vi sp un st to)) ⊎ (rest q (search q l se gi vi sp un st to) < suc k)
-      → Looped (runFor (q .geometry) (suc k) (stateOf q (search q l se gi vi sp un st to)) u)
-  turn k go l se gi vi sp un true to u I K O h = record { last = search q l se gi vi sp un true to; answer = refl; inv = I; ok = K; own = O; finished = tt }
-  turn k go [] se gi vi sp un false to u I K O h = record { last = search q [] se gi vi sp un false to; answer = refl; inv = I; ok = K; own = O; finished = tt }
+      → Looped (turned-from (suc k) (search q l se gi vi sp un st to)) (runFor (q .geometry) (suc k) (stateOf q (search q l se gi vi sp un st to)) u)
+  turn k go l se gi vi sp un true to u I K O h =
+      let m = search q l se gi vi sp un true to in
+      subst (λ (x : Search (shape q)). Looped x (stepping (Next (stateOf q m)) u)) (sym (stay-all q full (loopCalls q full k m) m tt))
+      (record { answer = refl; inv = I; ok = K; own = O; finished = tt })
+  turn k go [] se gi vi sp un false to u I K O h =
+      let m = search q [] se gi vi sp un false to in
+      subst (λ (x : Search (shape q)). Looped x (stepping (Next (stateOf q m)) u)) (sym (stay-all q full (loopCalls q full k m) m tt))
+      (record { answer = refl; inv = I; ok = K; own = O; finished = tt })
   turn k go (n ∷ r) se gi vi sp un false to u I K O (inl t) = absurd t
   turn k go (n ∷ r) se gi vi sp un false to u I K O (inr h) =
       let G = q .geometry in
@@ -123,22 +167,25 @@ module _ (q : Asked) (low : (w : ℕ) (l : List Float) → length l ≡ 4 * w �
       let S = I .held .nodes in
       let e = ap (enough (needed (stateOf q (start q)))) (I .lengths) ∙ room in
       let asked : ownDef G x u ≡ Is v = own-fields q low upp full (n ∷ r) se gi vi sp un false to u (I .numbers) (λ R. (S .0 .net1, S .0 .net2, S .0 .depth))
-      ∙ ap (λ (b : Bool). cond b (Is v) Rattle.search.specs.declared.Own.the-variants.NoRoom) (enough-own (needed (stateOf q (start q))) (sizes u) e) in
+      ∙ ap (λ (b : Bool). cond b (Is v) OwnNoRoom) (enough-own (needed (stateOf q (start q))) (sizes u) e) in
       let z = after-sim m1 u (stepOutcome x o) (ruleWith q true v m1) I1
       (subst (λ (b : Bool). StepSim q (stepOutcome x o) (ruleWith q b v m1) m1 u) e (step-sim q low upp m1 u v (I1 .numbers) (λ R. I1 .held))) in
       let a : o .answer ≡ Next (stateOf q m2) = next-of (o .answer) (Next (stateOf q m2)) (z .0) in
       let p : runFor G (suc k) x u ≡ runFor G k (stateOf q m2) (o .memory)
       = (λ i. turned (runFor G k) x (carriedOut G x u (asked i))) ∙ (λ i. turned (runFor G k) x (stepping (a i) (o .memory))) in
-      subst Looped (sym p) (go m2 (o .memory) (z .1) (ok-advance q v m1 (ok-hear q v m0 refl K)) (settled-own v n r se gi vi sp un O)
-      (lower-rest v n r se gi vi sp un k (isSettle (shape q) v) h))
+      subst (Looped (turned-from (suc k) m0)) (sym p)
+      (subst (λ (y : Search (shape q)). Looped y (runFor G k (stateOf q m2) (o .memory))) (sym (one-turn k n r se gi vi sp un to))
+      (go m2 (o .memory) (z .1) (ok-advance q v m1 (ok-hear q v m0 refl K)) (settled-own v n r se gi vi sp un O)
+      (lower-rest v n r se gi vi sp un k (isSettle (shape q) v) h)))
 
   loop : (k : ℕ) (m : Search (shape q)) (u : Memory) → Inv q full m u → Ok q m → AllOwn q (m .settled) → T (ended (shape q) m) ⊎ (rest q m < k)
-      → Looped (runFor (q .geometry) k (stateOf q m) u)
-  loop zero m u I K O (inl t) = record { last = m; answer = refl; inv = I; ok = K; own = O; finished = t }
+      → Looped (turned-from k m) (runFor (q .geometry) k (stateOf q m) u)
+  loop zero m u I K O (inl t) = record { answer = refl; inv = I; ok = K; own = O; finished = t }
   loop zero m u I K O (inr h) = absurd (omega arith)
   loop (suc k) m u I K O h = turn k (loop k) (m .stack) (m .settled) (m .given) (m .visits) (m .splits) (m .unspent) (m .stopped) (m .told) u I K O h
 
-  from-start : (u : Memory) → Fine q → Inv q full (start q) u → Looped (runDef (q .geometry) (stateOf q (start q)) u)
+  from-start : (u : Memory) → Fine q → Inv q full (start q) u → Looped (looped q full) (runDef (q .geometry) (stateOf q (start q)) u)
+  unfolding looped
   from-start u F I = loop (2 * start q .unspent + length (start q .stack) + 1) (start q) u I (ok-start q F) tt (inr (omega arith))
 
 -- ---- the word
@@ -157,29 +204,21 @@ none-in : {A : Type 0} (P : A → Type 0) (l : List A) → length l ≡ 0 → An
 none-in P [] e h = h
 none-in P (x ∷ l) e h = absurd (omega arith)
 
-all-pass : (q : Asked) (l : List (Settling (shape q))) → All (Cleared q) l → AllOwn q l → All (Passes q) (map (λ (e : Settling (shape q)). e .node) l)
+all-pass : (q : Asked) (l : List (Settling (shape q))) → All (Cleared q) l → AllOwn q l
+    → All (λ (e : Settling (shape q)). T (e .own) × Passes q (e .node)) l
 all-pass q [] c o = tt
-all-pass q (e ∷ l) c o = (c .0 (o .0), all-pass q l (c .1) (o .1))
+all-pass q (e ∷ l) c o = ((o .0, c .0 (o .0)), all-pass q l (c .1) (o .1))
 
-in-nodes : (q : Asked) (s t : Float) (l : List (Settling (shape q))) → Any (λ (e : Settling (shape q)). InNode (shape q) s t (e .node)) l
-    → Any (InNode (shape q) s t) (map (λ (e : Settling (shape q)). e .node) l)
-in-nodes q s t [] h = h
-in-nodes q s t (e ∷ l) (inl x) = inl x
-in-nodes q s t (e ∷ l) (inr y) = inr (in-nodes q s t l y)
-
-clear-all : (q : Asked) (m : Search (shape q)) → Ok q m → AllOwn q (m .settled) → length (m .given) ≡ 0 → length (m .stack) ≡ 0 → Clear q
-clear-all q m K O g l = record {
-  nodes = map (λ (e : Settling (shape q)). e .node) (m .settled);
-  pass = all-pass q (m .settled) (K .cleared) O;
-  held = λ s t a b. by s t (K .covered s t a b);
-}
+clear-all : (q : Asked) (full : Sizes) → Ok q (looped q full) → AllOwn q (looped q full .settled)
+    → length (looped q full .given) ≡ 0 → length (looped q full .stack) ≡ 0 → Clear q full
+clear-all q full K O g l = record { pass = all-pass q (looped q full .settled) (K .cleared) O; held = λ s t a b. by s t (K .covered s t a b) }
   where
-    by : (s t : Float) → Covered (shape q) (pieces1 q) (pieces2 q) m s t
-        → SetApart (shape q) (pieces1 q) (pieces2 q) s t ⊎ Any (InNode (shape q) s t) (map (λ (e : Settling (shape q)). e .node) (m .settled))
+    by : (s t : Float) → Covered (shape q) (pieces1 q) (pieces2 q) (looped q full) s t
+        → SetApart (shape q) (pieces1 q) (pieces2 q) s t ⊎ Any (λ (e : Settling (shape q)). InNode (shape q) s t (e .node)) (looped q full .settled)
     by s t (byBoxes h) = inl h
-    by s t (bySettled h) = inr (in-nodes q s t (m .settled) h)
-    by s t (byGiven h) = absurd (none-in (InNode (shape q) s t) (m .given) g h)
-    by s t (byWaiting h) = absurd (none-in (InNode (shape q) s t) (m .stack) l h)
+    by s t (bySettled h) = inr h
+    by s t (byGiven h) = absurd (none-in (InNode (shape q) s t) (looped q full .given) g h)
+    by s t (byWaiting h) = absurd (none-in (InNode (shape q) s t) (looped q full .stack) l h)
 
 -- ---- the report after the loop
 same-answer : (a b : Reported) (l m : List Float) → _≡_ {A = Answer} (reported a l) (reported b m) → a ≡ b
@@ -193,7 +232,7 @@ sim-answer q o r m w (unchanged a s e f) = a
 sim-answer q o r m w (moved a s H z R N) = a
 
 module _ (q : Asked) (full : Sizes) (room : enough (needed (stateOf q (start q))) full ≡ true) (m : Search (shape q)) (w : Memory)
-    (I : Inv q full m w) (K : Ok q m) (O : AllOwn q (m .settled)) (E : T (ended (shape q) m))
+    (I : Inv q full m w) (E : T (ended (shape q) m))
     (slice : List Float) (fits : leb (pairsOf q * suc (q .quota) * 10) (length slice) ≡ true) where
   told-all : _≡_ {A = Answer} (reported (reportDef (q .geometry) (stateOf q m) w slice .answer) (reportDef (q .geometry) (stateOf q m) w slice .slice))
       (reported (Told (wordFor (length (m .given)) (length (m .stack))) (tally q m) (length (merged merging (rawList q m))))
@@ -217,59 +256,68 @@ module _ (q : Asked) (full : Sizes) (room : enough (needed (stateOf q (start q))
       go true false c t e f = absurd (false≢true e)
       go false b c t e f = absurd t
 
-  reports-all : Reports q (reportDef (q .geometry) (stateOf q m) w slice)
-  reports-all = record {
-    search = m;
-    word = wordFor (length (m .given)) (length (m .stack));
-    counts = tally q m;
-    regions = length (merged merging (rawList q m));
-    told = same-answer _ _ _ _ told-all;
-    good =
-        subst
-        (λ (l : List Float). GoodReport q m (wordFor (length (m .given)) (length (m .stack))) (tally q m) (length (merged merging (rawList q m))) l)
-        (sym (same-slice _ _ _ _ told-all)) (good-report q m slice K E);
-    settled = each (m .settled) (K .cleared) O;
-  }
-    where
-      each : (l : List (Settling (shape q))) → All (Cleared q) l → AllOwn q l → All (λ (e : Settling (shape q)). Passes q (e .node)) l
-      each [] c o = tt
-      each (e ∷ l) c o = (c .0 (o .0), each l (c .1) (o .1))
+reports-all : (q : Asked) (full : Sizes) → enough (needed (stateOf q (start q))) full ≡ true → (w : Memory) → Inv q full (looped q full) w → Ok q (looped q full)
+    → AllOwn q (looped q full .settled) → T (ended (shape q) (looped q full)) → (slice : List Float)
+    → leb (pairsOf q * suc (q .quota) * 10) (length slice) ≡ true → Reports q full (reportDef (q .geometry) (stateOf q (looped q full)) w slice)
+reports-all q full room w I K O E slice fits =
+    let m = looped q full in
+    let e = told-all q full room m w I E slice fits in
+    record {
+      word = wordFor (length (m .given)) (length (m .stack));
+      counts = tally q m;
+      regions = length (merged merging (rawList q m));
+      told = same-answer _ _ _ _ e;
+      good =
+          subst
+          (λ (l : List Float). GoodReport q m (wordFor (length (m .given)) (length (m .stack))) (tally q m) (length (merged merging (rawList q m))) l)
+          (sym (same-slice _ _ _ _ e)) (good-report q m slice K E);
+      pass = all-pass q (m .settled) (K .cleared) O;
+    }
 
 -- ---- the loop's claims
-abbrev Claims : (q : Asked) → State → Memory → Type 0
-Claims q x u =
-    Ends (runDef (q .geometry) x u)
+abbrev Claims : (q : Asked) → Sizes → State → Memory → Type 0
+Claims q full x u =
+    Ends q full (runDef (q .geometry) x u)
     × ((y : State) → runDef (q .geometry) x u .answer ≡ Next y → (slice : List Float) (c : Counts) (k : ℕ)
-    → reportDef (q .geometry) y (runDef (q .geometry) x u .memory) slice .answer ≡ Told Complete c k → Clear q)
+    → reportDef (q .geometry) y (runDef (q .geometry) x u .memory) slice .answer ≡ Told Complete c k → Clear q full)
     × ((y : State) → runDef (q .geometry) x u .answer ≡ Next y → (slice : List Float) → x .pairs * suc (x .quota) * 10 ≤ length slice
-    → Reports q (reportDef (q .geometry) y (runDef (q .geometry) x u .memory) slice))
+    → Reports q full (reportDef (q .geometry) y (runDef (q .geometry) x u .memory) slice))
 
 same-next : (x y : State) → Next x ≡ Next y → x ≡ y
 same-next x y e = cc
 
 module _ (q : Asked) (u : Memory) (F : Fine q) (room : T (enough (needed (stateOf q (start q))) (sizes u))) where
-  pub loop-claims : Claims q (stateOf q (start q)) (openMemory q u)
+  pub loop-claims : Claims q (sizes u) (stateOf q (start q)) (openMemory q u)
   loop-claims =
       let L = from-start q (F .lower-length) (F .upper-length) (sizes u) (as-true (enough (needed (stateOf q (start q))) (sizes u)) room)
       (openMemory q u) F (open-inv q u F room) in (
-        record { last = stateOf q (L .last); answer = L .answer; finished = over-ended q (L .last) ∙ as-true (ended (shape q) (L .last)) (L .finished) },
+        record { answer = L .answer; finished = L .finished },
         λ y e slice c k r.
-            let s = same-next y (stateOf q (L .last)) (sym e ∙ L .answer) in
+            let s = same-next y (stateOf q (looped q (sizes u))) (sym e ∙ L .answer) in
             let w = told-word (q .geometry) y (runDef (q .geometry) (stateOf q (start q)) (openMemory q u) .memory) slice Complete c k r in
-            let z = word-exact (length (L .last .given)) (length (L .last .stack)) .0 (subst (λ (x : State). wordFor (x .given) (x .waiting) ≡ Complete) s w) in
-            clear-all q (L .last) (L .ok) (L .own) (z .0) (z .1),
+            let z = word-exact (length (looped q (sizes u) .given)) (length (looped q (sizes u) .stack)) .0 (subst (λ (x : State). wordFor (x .given) (x .waiting) ≡ Complete) s w) in
+            clear-all q (sizes u) (L .ok) (L .own) (z .0) (z .1),
         λ y e slice h.
-            let s = same-next y (stateOf q (L .last)) (sym e ∙ L .answer) in
+            let s = same-next y (stateOf q (looped q (sizes u))) (sym e ∙ L .answer) in
             let w = runDef (q .geometry) (stateOf q (start q)) (openMemory q u) .memory in
-            subst (λ (x : State). Reports q (reportDef (q .geometry) x w slice)) (sym s)
-            (reports-all q (sizes u) (as-true (enough (needed (stateOf q (start q))) (sizes u)) room) (L .last) w (L .inv) (L .ok) (L .own) (L .finished) slice (le-leb (pairsOf q * suc (q .quota) * 10) (length slice) h)),
+            subst (λ (x : State). Reports q (sizes u) (reportDef (q .geometry) x w slice)) (sym s)
+            (reports-all q (sizes u) (as-true (enough (needed (stateOf q (start q))) (sizes u)) room) w (L .inv) (L .ok) (L .own) (L .finished) slice
+            (le-leb (pairsOf q * suc (q .quota) * 10) (length slice) h)),
       )
 
 pub loop-ends : LoopEnds
-loop-ends q p1 p2 u x e = opened-fresh q p1 p2 u x (λ (y : State) (m : Memory). Claims (searchFor q) y m) (loop-claims (searchFor q) u) e .0
+loop-ends q p1 p2 u x e = opened-fresh q p1 p2 u x (λ (y : State) (m : Memory). Claims (searchFor q) (sizes u) y m) (loop-claims (searchFor q) u) e .0
 
 pub complete-is-clear : CompleteIsClear
-complete-is-clear q p1 p2 u x y e r = opened-fresh q p1 p2 u x (λ (y : State) (m : Memory). Claims (searchFor q) y m) (loop-claims (searchFor q) u) e .1 y r
+complete-is-clear q p1 p2 u x y e r = opened-fresh q p1 p2 u x (λ (y : State) (m : Memory). Claims (searchFor q) (sizes u) y m) (loop-claims (searchFor q) u) e .1 y r
 
 pub loop-reports : LoopReports
-loop-reports q p1 p2 u x y e r = opened-fresh q p1 p2 u x (λ (y : State) (m : Memory). Claims (searchFor q) y m) (loop-claims (searchFor q) u) e .2 y r
+loop-reports q p1 p2 u x y e r = opened-fresh q p1 p2 u x (λ (y : State) (m : Memory). Claims (searchFor q) (sizes u) y m) (loop-claims (searchFor q) u) e .2 y r
+
+-- ---- what is told is the loop's, and nothing else
+pub one-report : OneReport
+one-report q full o r = (r .good .named, r .good .tallied, r .good .read ∙ ap flats (r .good .listed))
+
+pub not-clear : NotClear
+not-clear q full e s t a b off c =
+    elim (c .held s t a b) [ inl x ↦ off x | inr y ↦ subst (Any (λ (e : Settling (shape q)). InNode (shape q) s t (e .node))) e y ]

@@ -289,6 +289,8 @@ good-report q m slice k e =
       number = refl;
       finished = e;
       tallied = refl;
+      listed = refl;
+      named = refl;
       accounted = λ s t a b. account q m k s t (k .covered s t a b);
       disjoint = merged-off merging off-comm raws;
       exact =
@@ -356,7 +358,7 @@ module _ (q : Asked) (full : Sizes) where
   stay-call (own n) m t = stay-own n m t
   stay-call (report n slice) m t = refl
 
-  stay-all : (cs : List Call) (m : Search (shape q)) → T (ended (shape q) m) → ruleAll q full cs m .search ≡ m
+  pub stay-all : (cs : List Call) (m : Search (shape q)) → T (ended (shape q) m) → ruleAll q full cs m .search ≡ m
   stay-all [] m t = refl
   stay-all (c ∷ cs) m t = ap (λ (x : Search (shape q)). ruleAll q full cs x .search) (stay-call c m t) ∙ stay-all cs m t
 

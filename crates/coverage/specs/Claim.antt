@@ -12,11 +12,13 @@ use Rattle.lists.specs.Parts.{block}
 use Rattle.verdicts.specs.declared.Verdict.the-variants.{Settled}
 use Rattle.floats.specs.Sizes.{Within}
 use Rattle.machine.specs.Machine.{Node, Settling, Search, InNode, ended}
+use Rattle.machine.specs.Merge.{merged}
 use Rattle.machine.specs.Covered.{SetApart, Covered, Off}
 use Rattle.regions.specs.declared.Region.{Region}
 use Rattle.regions.specs.declared.Word.{Word}
 use Rattle.regions.specs.declared.Word.the-variants.{Complete}
 use Rattle.regions.specs.Regions.{merging, flats}
+use Rattle.regions.specs.Reports.{wordFor}
 use Rattle.states.specs.declared.Counts.{Counts}
 use Rattle.floats.specs.Stations.{InRange, Piece, Cut}
 use Rattle.regions.specs.Stations.{InRegion}
@@ -25,7 +27,7 @@ use Rattle.states.specs.States.{Memory}
 use Rattle.report.specs.declared.Reported.{Reported}
 use Rattle.report.specs.declared.Reported.the-variants.{Told, Running, NoRoom}
 use Rattle.coverage.specs.Calls.{Answer, stepped, judged, reported, Ran}
-use Rattle.opening.specs.Asked.{Asked, shape, pieces1, pieces2, In1, In2, stateOf, tally, netOf1, netOf2, rangesOf, depthOf}
+use Rattle.opening.specs.Asked.{Asked, shape, pieces1, pieces2, In1, In2, stateOf, tally, rawList, netOf1, netOf2, rangesOf, depthOf}
 
 -- ---- what admission and an unrefused opening give
 -- ends of pieces are finite and at most 2 ^ bound in size; nets have the line's width
@@ -72,6 +74,9 @@ pub record GoodReport (q : Asked) (m : Search (shape q)) (w : Word) (c : Counts)
   -- the search has ended, and the counts are its
   pub finished : T (ended (shape q) m)
   pub tallied : c ≡ tally q m
+  -- the regions are its raw list merged, and the word is its: complete if the list is empty, budget if a node is left, else unseparated
+  pub listed : out ≡ merged merging (rawList q m)
+  pub named : w ≡ wordFor (length (m .given)) (length (m .stack))
   -- nothing is lost, no two regions touch, and "complete" comes exactly when given up and left are 0
   pub accounted : (s t : Float) → In1 q s → In2 q t → Accounted q m out s t
   pub disjoint : Pairwise (Off merging) out
