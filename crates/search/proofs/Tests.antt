@@ -14,7 +14,7 @@ use Rattle.states.specs.declared.Top.the-variants.{Node, Ended as TopEnded, NoR
 use Rattle.search.specs.declared.Stepped.the-variants.{Next, Ended, NoRoom}
 use Rattle.search.specs.declared.Own.the-variants.{Is, Ended as OwnEnded, NoRoom as OwnNoRoom}
 use Rattle.nodes.specs.Geometry.{Geometry}
-use Rattle.search.specs.Steps.{stepping, actOn, stepDef, judgeAt, ownDef}
+use Rattle.search.specs.Steps.{Stepping, stepping, actOn, stepDef, judgeAt, ownDef}
 use Rattle.nodes.specs.Writes.{Room}
 
 -- ---- the own verdict
@@ -119,6 +119,9 @@ module _ (x : State) (u : Memory) (k d : ℕ) (A : Accepted x u k d) where
   pub accepted-is : isSearch x u ≡ true
   accepted-is = ap (searchWith x) (sym (A .depth)) ∙ A .sound
 
+pub next-is : {y z : State} {m : Memory} {o : Stepping} → y ≡ z → stepping (Next z) m ≡ o → stepping (Next y) m ≡ o
+next-is {m = m} e h = ap (λ (x : State). stepping (Next x) m) e ∙ h
+
 module _ (G : Geometry) (x : State) (u : Memory) (v : Verdict) where
   pub step-ended : (b : Bool) → TopEnded ≡ topOf x b (u .depths) → stepping Ended u ≡ stepDef G x u v
   step-ended b e = rw (top-ended x b (u .depths) e) refl
@@ -128,8 +131,5 @@ module _ (G : Geometry) (x : State) (u : Memory) (v : Verdict) where
       let t = top-refused x b (u .depths) e in
       rw (t .0, ap (λ (a : Bool). a && isSearch x u) (sym h) ∙ t .1) refl
 
-  pub step-accepted : (y : State) (m : Memory) (k d : ℕ) → Accepted x u k d → {z : State} → y ≡ z → stepping (Next z) m ≡ actOn G (suc k) v x u
-      → stepping (Next y) m ≡ stepDef G x u v
-  step-accepted y m k d A e h =
-      ap (λ (z : State). stepping (Next z) m) e ∙ h ∙ ap (λ (n : ℕ). actOn G n v x u) (sym (A .top))
-      ∙ rw (A .runs, A .lent, accepted-is x u k d A) refl
+  pub step-accepted : (o : Stepping) (k d : ℕ) → Accepted x u k d → o ≡ actOn G (suc k) v x u → o ≡ stepDef G x u v
+  step-accepted o k d A h = h ∙ ap (λ (n : ℕ). actOn G n v x u) (sym (A .top)) ∙ rw (A .runs, A .lent, accepted-is x u k d A) refl
