@@ -69,6 +69,7 @@ splitMemory G k x u p q d =
       nets1 = patch (u .nets1) (k * (4 * x .width1)) (p0 .net ++ p1 .net);
       nets2 = patch (u .nets2) (k * (4 * x .width2)) (q0 .net ++ q1 .net);
       ranges = patch (u .ranges) (k * 4) ((p0 .lo ∷ p0 .hi ∷ q0 .lo ∷ q0 .hi ∷ []) ++ (p1 .lo ∷ p1 .hi ∷ q1 .lo ∷ q1 .hi ∷ []));
+      -- one a node
       depths = patch (u .depths) (k * 1) ((d ∷ []) ++ (d ∷ []));
       raw = u .raw;
     }

@@ -43,7 +43,7 @@ pub fn own_verdict<'a>(st: State, nets1: &'a [f64], nets2: &'a [f64], depths: &[
     match states::top_node(st, room, depths) {
         Top::Ended => Own::Ended,
         Top::NoRoom => Own::NoRoom,
-        Top::Node(top, depth) => {
+        Top::Node(top, _) => {
             let k = top as usize;
             Own::Is(clearing::judge(
                 nets::net_of(nets1, nets2, 1, k, st.width1 as usize),

@@ -58,6 +58,7 @@ needed x = record {
   nets1 = (x .pairs + limit) * (4 * x .width1);
   nets2 = (x .pairs + limit) * (4 * x .width2);
   ranges = (x .pairs + limit) * 4;
+  -- one a node
   depths = (x .pairs + limit) * 1;
   raw = x .pairs * suc (x .quota) * 10;
 }

@@ -103,6 +103,7 @@ pub fn has_room_to_judge(st: State, nets1: usize, nets2: usize, depths: usize) -
     if nets2 < nodes * (4 * (st.width2 as usize)) {
         return false;
     }
+    // one a node
     depths >= nodes * 1
 }
 
