@@ -10,7 +10,7 @@ use lib.Ieee.{Float, nan, inf, fin, up, down, lt, eq, le}
 use lib.Ieee.Fits.{down-pos, and-l, and-r, and-i, eq→eqb}
 use lib.Ieee.Positive.{through}
 use lib.Ieee.Bits.{is-true}
-use Rattle.floats.specs.Floats.{least, greatest}
+use Rattle.floats.specs.Floats.{least, greatest, Skips}
 use Rattle.floats.specs.Sizes.{Number}
 
 -- ±a ≤ ±b
@@ -181,6 +181,24 @@ eq-self (fin false m e) p = and-i (eqb (m * up e * down e) (m * up e * down e)) 
 other-way : (x y : Float) → Number x → Number y → le x y ≡ false → T (le y x)
 other-way x y p q e = elim (le-total x y p q) [ inl h ↦ absurd (subst T e h) | inr h ↦ h ]
 
+-- a NaN is skipped
+pub least-skips : (x : Float) → (least x nan ≡ x) × (least nan x ≡ x)
+unfolding least le lt eq
+least-skips nan = (refl, refl)
+least-skips (inf true) = (refl, refl)
+least-skips (inf false) = (refl, refl)
+least-skips (fin s m e) = (refl, rw (is-true (eq (fin s m e) (fin s m e)) (eq-self (fin s m e) tt)) refl)
+
+pub greatest-skips : (x : Float) → (greatest x nan ≡ x) × (greatest nan x ≡ x)
+unfolding greatest le lt eq
+greatest-skips nan = (refl, refl)
+greatest-skips (inf true) = (refl, refl)
+greatest-skips (inf false) = (refl, refl)
+greatest-skips (fin s m e) = (refl, rw (is-true (eq (fin s m e) (fin s m e)) (eq-self (fin s m e) tt)) refl)
+
+pub skips : Skips
+skips x = (least-skips x .0, least-skips x .1, greatest-skips x .0, greatest-skips x .1)
+
 pub record Least (x y z : Float) : Type 0 where
   pub left : T (le z x)
   pub right : T (le z y)
@@ -208,11 +226,3 @@ greatest-is x y p q = go (le y x) (eq y y) refl refl
     go true c e f = record { left = le-self x p; right = subst T (sym e) tt; number = p }
     go false true e f = record { left = other-way y x q p e; right = le-self y q; number = q }
     go false false e f = absurd (subst T f (eq-self y q))
-
--- a NaN is skipped
-pub least-skips : (x y : Float) → Number x → (least x nan ≡ x) × (least nan x ≡ x)
-unfolding least le lt eq
-least-skips nan y p = absurd p
-least-skips (inf true) y p = (refl, refl)
-least-skips (inf false) y p = (refl, refl)
-least-skips (fin s m e) y p = (refl, rw (is-true (eq (fin s m e) (fin s m e)) (eq-self (fin s m e) tt)) refl)

@@ -1,6 +1,7 @@
 -- Least and greatest, ranges and middles of doubles (document 01, module Floats). Definitions only.
+use mathlib.Core.Path.{_≡_}
 use mathlib.Core.Bool.{Bool, false, cond}
-use lib.Ieee.{Float, binary64, add, mul, le, eq, ofBits}
+use lib.Ieee.{Float, nan, binary64, add, mul, le, eq, ofBits}
 
 -- Rust's `f64::min` and `f64::max`: a NaN is skipped. Of two equal numbers, as the zeros, the first; the Rust leaves the sign of a zero open here.
 unfoldable pub least : Float → Float → Float
@@ -8,6 +9,10 @@ least a b = cond (le a b) a (cond (eq b b) b a)
 
 unfoldable pub greatest : Float → Float → Float
 greatest a b = cond (le b a) a (cond (eq b b) b a)
+
+-- "Least and greatest skip a NaN": beside a NaN, on either side, the other one is taken.
+abbrev pub Skips : Type 0
+Skips = (x : Float) → (least x nan ≡ x) × (least nan x ≡ x) × (greatest x nan ≡ x) × (greatest nan x ≡ x)
 
 -- from lo to hi, ends included; no NaN is
 unfoldable pub within : Float → Float → Float → Bool
