@@ -613,6 +613,33 @@ def pairs_of_lines():
     yield 'cubics', sheet(cubic, bezier([(0, 0.5, 0), (1, -3, 1), (2, 3, -1), (3, 0, 0)]))
 
 
+def axes():
+    """Verdicts that hang on which of two chords counts as longer, and on the direction of an axis: sums
+    and the gap are rounded, so an axis and its opposite can differ."""
+    # 64 and 64 + 2^-46 have the same rounded root
+    yield 'chords-by-squares', sheet(bezier([(0, 0, 0), (4, 10, 0), (8, 0, 0)]),
+                                     segment((0, 8, 0), (8, 8, BINADE(-23))), S=0, gap=9.0)
+    yield 'normal-direction', sheet(segment((-1, 0, 0.3), (3, 0, 0.3)), segment((0, -1, 0.4), (0.5, 1, 0.4)), S=0, gap=0.1)
+    yield 'chord-direction', sheet(segment((0, 0.3, 0), (3, 0.3, 0)), segment((1, 1, 0), (2, 2, 0)), S=0, gap=0.7)
+    yield 'line-direction', sheet(
+        segment((0, 0, 0), (0.8, 0.5, 0.30000000000000004)),
+        segment((1.0424366106925307, 0.6515228816828317, 0.390913729009699),
+                (1.4424366106925306, 0.9015228816828316, 0.540913729009699)), S=0, gap=0.3)
+
+
+def limits():
+    """All of the lent memory needed, and a weight beyond the limit by a factor of 2."""
+    rail = lambda pieces: clamped(25, [(i, 0, 0) for i in range(pieces + 25)])
+    far, along = segment((0, 500, 0), (9, 500, 0)), segment((0, 0, 0), (36, 0, 0))
+    yield 'pieces-8112', sheet(rail(78), far, S=1)
+    yield 'pieces-8112-second', sheet(far, rail(78), S=1)
+    yield 'nets-7904', sheet(rail(12), along, S=0)
+    yield 'nets-7904-second', sheet(along, rail(12), S=0)
+    heavy = bezier([(0, 0, 0), (1, 1, 0)], weights=[1.0, BINADE(11)])
+    yield 'weight-2^11', sheet(heavy, A)
+    yield 'weight-2^11-second', sheet(A, heavy)
+
+
 PICKED = [('edge', [17, 33, 51, 56, 135, 273]),
           ('limit', [107, 675, 1676, 1774, 2067, 3547, 3603, 3652, 3894]),
           ('lines', [21, 342, 1162, 1280, 1371, 1497, 1682, 3383]),
@@ -631,7 +658,7 @@ def drawn():
     """All drawn sheets: (name, bytes)."""
     for part in (checks, point_contacts, word_faults, empty_parts, line_faults, question_faults,
                  memory_faults, merging, zero_starts, tiny_coordinates, measures, pairs_of_lines,
-                 picked):
+                 picked, axes, limits):
         yield from part()
     for name, make in EXAMPLES:
         yield 'example-' + name, make()
@@ -1082,6 +1109,7 @@ REPLAY_SEED, REPLAY_TRIED, REPLAY_BYTES, REPLAY_TEXT = 12, 2000, 1000, 1500
 REPLAY_GROUPS = [(checks, 2), (point_contacts, 2), (word_faults, 8), (empty_parts, 3), (line_faults, 7),
                  (question_faults, 3), (memory_faults, 5), (merging, 4), (zero_starts, 1), (tiny_coordinates, 3),
                  (measures, 5), (pairs_of_lines, 8), (picked, 1)]
+REPLAY_LAST = [axes, limits]
 REPLAY_ALSO = {
     'example', 'crossing-S0', 'crossing-S1', 'parallel-gap0.5', 'parallel-gap1.0', 'far', 'nan-net', 'degree25',
     'degree26', 'length-0', 'length-1', 'length-16384', 'length-16388', 'second-stops', 'weights-0-last-word',
@@ -1097,8 +1125,8 @@ REPLAY_ALSO = {
 
 
 def replay_sheets(program):
-    """(bytes, answer) of the replay list: drawn sheets, thinned by group, and
-    random ones, a few of each bucket."""
+    """(bytes, answer) of the replay list: drawn sheets, thinned by group, random
+    ones, a few of each bucket, and the last groups whole."""
     for group, every in REPLAY_GROUPS:
         for i, (name, data) in enumerate(group()):
             if i % every == 0 or name in REPLAY_ALSO:
@@ -1115,6 +1143,9 @@ def replay_sheets(program):
         if taken.get(at, 0) < most and len(answer) <= REPLAY_TEXT:
             taken[at] = taken.get(at, 0) + 1
             yield data, answer
+    for group in REPLAY_LAST:
+        for _, data in group():
+            yield data, answer_of(program, data)
 
 
 def write_replay(folder, program):
