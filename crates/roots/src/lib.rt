@@ -91,7 +91,7 @@ fn guess(b: u64) -> f64
     s + 0.5 * y * (v - s * s)
 }
 
-// A guess at the root of a number from 0 up to 10^300, good to one part in 500; of any other 0. Nothing rests on it: a caller tests it.
+// A guess at the root of a number from 0 up to 10^300, good to one part in 500 from 2^−1022 on; of any other number 0. Nothing rests on it: a caller tests it.
 pub fn rough_sqrt(x: f64) -> f64 {
     if x < 1.0e300 {
         let b = f64::to_bits(x);
