@@ -7,7 +7,7 @@ use Prim.Native.Nat.{ℕ, zero, suc, _+_, _-_, _%_, _^_, _<_}
 use native.Mathlib.Omega.{arith}
 use lib.Dec.{T, ltb, leb, eqb, lit<}
 use lib.ListN.{length, getD}
-use lib.Ieee.{lt, le, neg}
+use lib.Ieee.{lt, neg}
 use Rattle.lists.specs.Tests.{every, total}
 use Rattle.floats.specs.Floats.{within}
 use Rattle.floats.specs.Sizes.{Within}
@@ -15,9 +15,9 @@ use Rattle.lines.specs.declared.Admission.{Admission}
 use Rattle.lines.specs.declared.Admission.the-variants.{Admitted, InvalidDegree, KnotCount, KnotOutOfRange, KnotsNotIncreasing, MultiplicityTooLarge, ZeroMultiplicity, PoleCountMismatch, PoleCountOutOfRange, WeightCountMismatch, WeightOutOfRange, CoordinateOutOfRange}
 use Rattle.lines.specs.Admit.{admissionNumber, two20, two24, two10, one1024th, inner, degreeOut, knotCountOut, knotOut, notIncreasing, tooLarge, zeroMult, poleMismatch, poleCountOut, weightMismatch, weightOut, coordOut, validateDirection, validatePoles}
 use Rattle.lines.specs.Lines.{Line}
-use Rattle.facts.specs.Faults.{poles, Fault4, Fault5, Fault6, Fault7, Fault8, Fault9, Fault10, Fault11, Fault12, Fault13, Fault14, LineFault, FirstLineFault, admission}
+use Rattle.facts.specs.Faults.{WithinFactor, poles, Fault4, Fault5, Fault6, Fault7, Fault8, Fault9, Fault10, Fault11, Fault12, Fault13, Fault14, LineFault, FirstLineFault, admission}
 use Rattle.facts.proofs.Reflect.{Tests, of-T, of-lt, of-eq, of-or, of-or3, of-not, of-neither, of-over, of-any, of-two, same}
-use Rattle.facts.proofs.Sizes.{of-within20, of-within24, of-range}
+use Rattle.facts.proofs.Sizes.{of-within20, of-within24, of-weight}
 use Rattle.facts.proofs.Rows.{firstRow, Met, InOrder, first-met, met-first, none-met, met-none, Apart, row, of-row}
 
 -- ---- the answer is the place of the first test that is true
@@ -113,9 +113,7 @@ module _ (l : Line) where
   test12 = of-neither (eqb (length (l .weights)) 0) (eqb (length (l .weights)) (poles l)) (of-eq (length (l .weights)) 0) (of-eq (length (l .weights)) (poles l))
 
   test13 : Tests (Fault13 l) (weightOut (l .weights))
-  test13 =
-      of-any (λ w. T (le one1024th w) × T (le w two10) → ⊥) (within one1024th two10)
-      (λ w. of-not (within one1024th two10 w) (of-range one1024th two10 w)) (l .weights)
+  test13 = of-any (λ w. WithinFactor (2 ^ 10) w → ⊥) (within one1024th two10) (λ w. of-not (within one1024th two10 w) (of-weight w)) (l .weights)
 
   test14 : Tests (Fault14 l) (coordOut (l .coords))
   test14 = of-any (λ x. Within (2 ^ 24) x → ⊥) (within (neg two24) two24) (λ x. of-not (within (neg two24) two24 x) (of-within24 x)) (l .coords)

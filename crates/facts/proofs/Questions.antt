@@ -18,7 +18,7 @@ use Rattle.questions.specs.Questions.{askedNumber, askedLine, rangeFits, parted
 use Rattle.lines.specs.Lines.{Line, Question}
 use Rattle.facts.specs.Faults.{admission, bounds, Fault15, Fault16, Fault18, QuestionFault, Earlier, asked, askedPlace, FirstQuestionFault}
 use Rattle.facts.proofs.Reflect.{Tests, of-T, of-lt, of-not, of-both, of-two, same}
-use Rattle.facts.proofs.Sizes.{of-range, within-finite}
+use Rattle.facts.proofs.Sizes.{of-gap, within-finite}
 use Rattle.facts.proofs.Cover.{range-fine}
 use Rattle.facts.proofs.Rows.{firstRow, Met, InOrder, Apart, first-met, met-first, none-met, met-none, row, of-row}
 
@@ -83,7 +83,7 @@ test15 l lo hi ok = same to from (of-not (rangeFits (bounds l) lo hi) inside)
     from (inr (inr (inr (inr n)))) t = n (t .1 .1)
 
 test16 : (gap : Float) → Tests (Fault16 gap) (not (within zero64 two24 gap))
-test16 gap = of-not (within zero64 two24 gap) (of-range zero64 two24 gap)
+test16 gap = of-not (within zero64 two24 gap) (of-gap gap)
 
 test18 : (l : Line) (lo hi : Float) → Tests (Fault18 l lo hi) (not (eachTwo parted (breaksOf lo hi (l .knots))))
 unfolding parted

@@ -1,19 +1,20 @@
 -- Document 01's table in its own words, numbers 4 to 18: what a line or a question meets. Definitions only.
 use mathlib.Core.Path.{_≡_}
 use mathlib.Core.Logic.{_⊎_}
+use mathlib.Core.Bool.{true, false}
 use mathlib.Core.List.{List, [], _∷_}
-use Prim.Native.Nat.{ℕ, _+_, _-_, _/_, _%_, _^_, _<_}
+use Prim.Native.Nat.{ℕ, _+_, _-_, _*_, _/_, _%_, _^_, _<_, _≤_}
 use lib.Dec.{T}
 use lib.ListN.{length, getD}
-use lib.Ieee.{Float, nan, inf, fin, le, lt}
+use lib.Ieee.{Float, nan, inf, fin, up, down, le, lt}
 use Rattle.lists.specs.Members.{Any}
 use Rattle.lists.specs.Tests.{total}
-use Rattle.floats.specs.Floats.{zero64, middle}
+use Rattle.floats.specs.Floats.{middle}
 use Rattle.floats.specs.Sizes.{Within}
 use Rattle.points.specs.declared.Interval.{Interval}
 use Rattle.lines.specs.declared.Admission.{Admission}
 use Rattle.lines.specs.Lines.{Line, Question}
-use Rattle.lines.specs.Admit.{one1024th, two10, two24, inner, admitOf}
+use Rattle.lines.specs.Admit.{inner, admitOf}
 use Rattle.knots.specs.Knots.{boundsOf, breaksOf}
 use Rattle.questions.specs.declared.Asked.{Asked}
 use Rattle.questions.specs.Questions.{askedNumber, askedLine, askOf}
@@ -29,6 +30,20 @@ abbrev pub Finite : Float → Type 0
 Finite nan = ⊥
 Finite (inf s) = ⊥
 Finite (fin s m e) = Unit {0}
+
+-- from 1 / C to C, whole numbers compared: `fin false m e` is m × 2^e, and that is m × up e / down e
+abbrev pub WithinFactor : ℕ → Float → Type 0
+WithinFactor C nan = ⊥
+WithinFactor C (inf s) = ⊥
+WithinFactor C (fin true m e) = ⊥
+WithinFactor C (fin false m e) = (down e ≤ C * (m * up e)) × (m * up e ≤ C * down e)
+
+-- from 0 to C, of either zero
+abbrev pub FromZero : ℕ → Float → Type 0
+FromZero C nan = ⊥
+FromZero C (inf s) = ⊥
+FromZero C (fin true m e) = (m ≡ 0)
+FromZero C (fin false m e) = m * up e ≤ C * down e
 
 -- three coordinates a pole
 abbrev pub poles : Line → ℕ
@@ -72,7 +87,7 @@ Fault12 l = (length (l .weights) ≡ 0 → ⊥) × (length (l .weights) ≡ pole
 
 -- 13: a weight isn't from 2^−10 to 2^10
 abbrev pub Fault13 : Line → Type 0
-Fault13 l = Any (λ w. T (le one1024th w) × T (le w two10) → ⊥) (l .weights)
+Fault13 l = Any (λ w. WithinFactor (2 ^ 10) w → ⊥) (l .weights)
 
 -- 14: a coordinate isn't within ±2^24
 abbrev pub Fault14 : Line → Type 0
@@ -102,7 +117,7 @@ Fault15 l lo hi =
 
 -- 16: the gap isn't from 0 to 2^24
 abbrev pub Fault16 : Float → Type 0
-Fault16 gap = T (le zero64 gap) × T (le gap two24) → ⊥
+Fault16 gap = FromZero (2 ^ 24) gap → ⊥
 
 -- 17: splits per pair, S, is over 256
 abbrev pub Fault17 : ℕ → Type 0
