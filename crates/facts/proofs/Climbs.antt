@@ -17,17 +17,17 @@ use Rattle.floats.proofs.Order.{le-self, le-trans-float, right-number}
 use Rattle.facts.proofs.Reflect.{both, as-true}
 use Rattle.facts.proofs.Cover.{fits-of, lt-le, every-at, every-flat}
 
-abbrev Above : Float → List Float → Type 0
+abbrev pub Above : Float → List Float → Type 0
 Above k l = All (λ (y : Float). T (le k y)) l
 
-abbrev Sorted : List Float → Type 0
+abbrev pub Sorted : List Float → Type 0
 Sorted l = Pairwise (λ x y. T (le x y)) l
 
 lower : (k x : Float) (l : List Float) → T (le k x) → Above x l → Above k l
 lower k x [] h a = tt
 lower k x (y ∷ l) h a = (le-trans-float k x y h (a .0), lower k x l h (a .1))
 
-above-knots : (k : Float) (ks : List Float) → eachTwo lt (k ∷ ks) ≡ true → Above k ks
+pub above-knots : (k : Float) (ks : List Float) → eachTwo lt (k ∷ ks) ≡ true → Above k ks
 unfolding eachTwo
 above-knots k [] e = tt
 above-knots k (y ∷ ys) e =
@@ -35,7 +35,7 @@ above-knots k (y ∷ ys) e =
     let g = lt-le k y (h .0) in
     (g, lower k y ys g (above-knots y ys (h .1)))
 
-rising-tail : (k : Float) (ks : List Float) → eachTwo lt (k ∷ ks) ≡ true → eachTwo lt ks ≡ true
+pub rising-tail : (k : Float) (ks : List Float) → eachTwo lt (k ∷ ks) ≡ true → eachTwo lt ks ≡ true
 unfolding eachTwo
 rising-tail k [] e = refl
 rising-tail k (y ∷ ys) e = both (lt k y) (eachTwo lt (y ∷ ys)) e .1
@@ -56,7 +56,7 @@ unfolding repeated
 sorted-repeated k zero l n a s = s
 sorted-repeated k (suc m) l n a s = (above-repeated k k m l (le-self k n) a, sorted-repeated k m l n a s)
 
-numbers-of : (k : Float) → within (neg two20) two20 k ≡ true → Number k
+pub numbers-of : (k : Float) → within (neg two20) two20 k ≡ true → Number k
 numbers-of k e = right-number (neg two20) k (fits-of k e .0)
 
 sorted-flat : (ks : List Float) (ms : List ℕ) → eachTwo lt ks ≡ true → every (within (neg two20) two20) ks ≡ true → Sorted (flatKnots ks ms)
@@ -67,12 +67,12 @@ sorted-flat (k ∷ ks) (m ∷ ms) r f =
     let h = both (within (neg two20) two20 k) (every (within (neg two20) two20) ks) f in
     sorted-repeated k m (flatKnots ks ms) (numbers-of k (as-true _ (h .0))) (above-flat k ks ms (above-knots k ks r)) (sorted-flat ks ms (rising-tail k ks r) (h .1))
 
-above-at : (x : Float) (l : List Float) (j : ℕ) → Above x l → j < length l → T (le x (getD l j nan))
+pub above-at : (x : Float) (l : List Float) (j : ℕ) → Above x l → j < length l → T (le x (getD l j nan))
 above-at x [] j a h = absurd (omega arith)
 above-at x (y ∷ l) zero a h = a .0
 above-at x (y ∷ l) (suc j) a h = above-at x l j (a .1) (omega arith)
 
-sorted-at : (l : List Float) (i j : ℕ) → Sorted l → ((k : ℕ) → k < length l → Number (getD l k nan)) → i ≤ j → j < length l → T (le (getD l i nan) (getD l j nan))
+pub sorted-at : (l : List Float) (i j : ℕ) → Sorted l → ((k : ℕ) → k < length l → Number (getD l k nan)) → i ≤ j → j < length l → T (le (getD l i nan) (getD l j nan))
 sorted-at [] i j s n a b = absurd (omega arith)
 sorted-at (x ∷ l) zero zero s n a b = le-self x (n 0 (omega arith))
 sorted-at (x ∷ l) zero (suc j) s n a b = above-at x l j (s .0) (omega arith)

@@ -6,4 +6,6 @@ pub mod Cover
 pub mod Questions
 pub mod Climbs
 pub mod Spans
+pub mod Breaks
+pub mod Stretches
 pub mod Facts

@@ -13,15 +13,15 @@ use Rattle.spans.specs.Spans.{reachOf, backOf, spanOf}
 use Rattle.floats.proofs.Order.{le-trans-float}
 use Rattle.facts.proofs.Reflect.{is-true}
 
-false-of : (b : Bool) → (T b → ⊥) → b ≡ false
+pub false-of : (b : Bool) → (T b → ⊥) → b ≡ false
 false-of true h = absurd (h tt)
 false-of false h = refl
 
-never : (b : Bool) → b ≡ false → T b → ⊥
+pub never : (b : Bool) → b ≡ false → T b → ⊥
 never true e t = let z : _≡_ {A = ℕ} 0 1 = cc in omega arith
 never false e t = t
 
-reach-in : (n s : ℕ) (u : Float) (l : List Float) → (s ≤ reachOf n s u l) × (reachOf n s u l ≤ s + n)
+pub reach-in : (n s : ℕ) (u : Float) (l : List Float) → (s ≤ reachOf n s u l) × (reachOf n s u l ≤ s + n)
 unfolding reachOf
 reach-in zero s u l = (omega arith, omega arith)
 reach-in (suc n) s u l = go (le (getD l (s + 1) nan) u) (reach-in n (suc s) u l)
@@ -31,7 +31,7 @@ reach-in (suc n) s u l = go (le (getD l (s + 1) nan) u) (reach-in n (suc s) u l)
     go true h = (omega arith, omega arith)
     go false h = (omega arith, omega arith)
 
-reach-low : (n s : ℕ) (u : Float) (l : List Float) → T (le (getD l s nan) u) → T (le (getD l (reachOf n s u l) nan) u)
+pub reach-low : (n s : ℕ) (u : Float) (l : List Float) → T (le (getD l s nan) u) → T (le (getD l (reachOf n s u l) nan) u)
 unfolding reachOf
 reach-low zero s u l h = h
 reach-low (suc n) s u l h = go (le (getD l (s + 1) nan) u) refl (reach-low n (suc s) u l)
@@ -41,7 +41,7 @@ reach-low (suc n) s u l h = go (le (getD l (s + 1) nan) u) refl (reach-low n (su
     go true e on = let q : s + 1 ≡ suc s = omega arith in on (is-true _ (rw q at e))
     go false e on = h
 
-reach-high : (n s : ℕ) (u : Float) (l : List Float) → reachOf n s u l < s + n → le (getD l (reachOf n s u l + 1) nan) u ≡ false
+pub reach-high : (n s : ℕ) (u : Float) (l : List Float) → reachOf n s u l < s + n → le (getD l (reachOf n s u l + 1) nan) u ≡ false
 unfolding reachOf
 reach-high zero s u l h = absurd (omega arith)
 reach-high (suc n) s u l h = go (le (getD l (s + 1) nan) u) refl h (reach-high n (suc s) u l)
@@ -79,6 +79,9 @@ module _ (p : ℕ) (flat : List Float) (u : Float) (room : 2 * p + 2 ≤ length 
 
   pub span-opens : (T (le (getD flat (spanOf p flat u) nan) u)) × (le (getD flat (spanOf p flat u + 1) nan) u ≡ false)
   span-opens = rw stays reached
+
+  pub span-in : (p ≤ spanOf p flat u) × (spanOf p flat u + p + 2 ≤ length flat)
+  span-in = let b = reach-in (length flat - (2 * p + 2)) p u flat in rw stays (b .0, omega (arith, b .1))
 
   -- there is no other in a climbing list
   pub only-span : ((i j : ℕ) → i ≤ j → j < length flat → T (le (getD flat i nan) (getD flat j nan))) → (s : ℕ) → s + 1 < length flat

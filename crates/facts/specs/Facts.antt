@@ -2,18 +2,22 @@
 use mathlib.Core.Path.{_≡_}
 use mathlib.Core.Logic.{_↔_}
 use mathlib.Core.Bool.{true}
-use Prim.Native.Nat.{ℕ, _<_}
-use lib.Ieee.{Float}
+use Prim.Native.Nat.{ℕ, _<_, _≤_}
+use lib.Dec.{T}
+use lib.Ieee.{Float, le, lt}
 use Rattle.lists.specs.Members.{Any}
+use Rattle.lists.specs.Tests.{eachTwo}
 use Rattle.floats.specs.Stations.{InRange, Piece, piecesFrom}
 use Rattle.lines.specs.Lines.{Line, Question}
 use Rattle.lines.specs.declared.Admission.the-variants.{Admitted}
 use Rattle.lines.specs.Admit.{admissionNumber}
 use Rattle.questions.specs.declared.Asked.the-variants.{Fine}
-use Rattle.questions.specs.Questions.{rangeFits}
+use Rattle.knots.specs.Knots.{breaksOf}
+use Rattle.questions.specs.Questions.{rangeFits, parted}
 use Rattle.curves.specs.Curves.{piecesOf}
-use Rattle.facts.specs.Faults.{admission, LineFault, FirstLineFault, asked, askedPlace, bounds, QuestionFault, FirstQuestionFault}
+use Rattle.facts.specs.Faults.{poles, admission, LineFault, FirstLineFault, asked, askedPlace, bounds, QuestionFault, FirstQuestionFault}
 use Rattle.facts.specs.Cover.{cutsOf, netsIn}
+use Rattle.facts.specs.Spans.{AllTwo, InSpan, spanNumber, InOneSpan}
 
 -- "When, and only then", numbers 4 to 14: a line gets a number exactly if that row is the first that it meets, and is admitted exactly if it meets none.
 abbrev pub LineTable : Type 0
@@ -35,3 +39,13 @@ PiecesCover = (l : Line) (lo hi : Float) → admission l ≡ Admitted → rangeF
 -- What is written for a line are the nets of these pieces, one after the other.
 abbrev pub PiecesWritten : Type 0
 PiecesWritten = (l : Line) (lo hi : Float) → piecesOf (l .degree) (l .knots) (l .mults) (l .coords) (l .weights) lo hi ≡ netsIn (cutsOf l lo hi)
+
+-- From an admitted line's lower bound on and below its upper one, u lies in the span that is found for it and in no other; it is one of those from number degree to number poles − 1.
+abbrev pub SpanHolds : Type 0
+SpanHolds = (l : Line) (u : Float) → admission l ≡ Admitted → T (le (bounds l .lo) u) → T (lt u (bounds l .hi))
+    → InSpan l u (spanNumber l u) × ((s : ℕ) → InSpan l u s → s ≡ spanNumber l u) × (l .degree ≤ spanNumber l u) × (spanNumber l u < poles l)
+
+-- A net belongs to its stretch: each two neighbouring breaks of a range that passes 15, if they pass 18, lie in one span, and the net between them is made of that span.
+abbrev pub BreaksInSpans : Type 0
+BreaksInSpans = (l : Line) (lo hi : Float) → admission l ≡ Admitted → rangeFits (bounds l) lo hi ≡ true
+    → eachTwo parted (breaksOf lo hi (l .knots)) ≡ true → AllTwo (InOneSpan l) (breaksOf lo hi (l .knots))

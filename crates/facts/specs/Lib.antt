@@ -1,3 +1,4 @@
 pub mod Faults
 pub mod Cover
+pub mod Spans
 pub mod Facts

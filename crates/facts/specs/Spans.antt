@@ -1,0 +1,46 @@
+-- Where a parameter and the breaks of a range lie among the knots. Definitions only.
+use mathlib.Core.Path.{_≡_}
+use mathlib.Core.List.{List, [], _∷_}
+use Prim.Native.Nat.{ℕ, _+_}
+use lib.Dec.{T}
+use lib.ListN.{getD}
+use lib.Ieee.{Float, nan, le, lt}
+use Rattle.floats.specs.Floats.{middle}
+use Rattle.points.specs.declared.Interval.{Interval}
+use Rattle.lines.specs.Lines.{Line}
+use Rattle.knots.specs.Knots.{flatKnots}
+use Rattle.spans.specs.Spans.{spanOf, spanAround}
+use Rattle.pieces.specs.Pieces.{held}
+
+-- each two neighbours are related
+abbrev pub AllTwo : {A : Type 0} → (A → A → Type 0) → List A → Type 0
+AllTwo R [] = Unit {0}
+AllTwo R (x ∷ []) = Unit {0}
+AllTwo R (x ∷ y ∷ l) = R x y × AllTwo R (y ∷ l)
+
+-- the line's flat knots
+abbrev pub flat : Line → List Float
+flat l = flatKnots (l .knots) (l .mults)
+
+-- u lies in the span that flat knot s opens: from it on, and below the next. Behind the last knot a NaN is read, which nothing is below.
+abbrev pub InSpan : Line → Float → ℕ → Type 0
+InSpan l u s = T (le (getD (flat l) s nan) u) × T (lt u (getD (flat l) (s + 1) nan))
+
+-- the number of u's span: `KnotVector::span` of a u that the bounds hold
+abbrev pub spanNumber : Line → Float → ℕ
+spanNumber l u = spanOf (l .degree) (flat l) u
+
+-- for the piece from t0 to t1: the knots around the middle, which `CurvePieces::new` takes as the net's range when it cuts the net to t0 and t1
+abbrev pub around : Line → Float → Float → Interval
+around l t0 t1 = spanAround (l .knots) (middle t0 t1)
+
+-- and the number of the span that the net is made of, in `span_bezier`
+abbrev pub netSpan : Line → Float → Float → ℕ
+netSpan l t0 t1 = spanNumber l (held (l .degree) (flat l) (middle t0 t1))
+
+-- The range to which the net is cut holds both breaks, and it is the span that the net is made of.
+pub record InOneSpan (l : Line) (t0 t1 : Float) : Type 0 where
+  pub from : T (le (around l t0 t1 .lo) t0)
+  pub to : T (le t1 (around l t0 t1 .hi))
+  pub starts : getD (flat l) (netSpan l t0 t1) nan ≡ around l t0 t1 .lo
+  pub ends : getD (flat l) (netSpan l t0 t1 + 1) nan ≡ around l t0 t1 .hi
