@@ -10,6 +10,7 @@ use Rattle.floats.specs.Floats.{zero64, one64, half64}
 use Rattle.regions.specs.Reports.{wordNumber}
 use Rattle.lines.specs.Lines.{Line, Question}
 use Rattle.curves.specs.Curves.{piecesOf}
+use Rattle.facts.specs.Faults.{askedPlace}
 use Rattle.states.specs.States.{Memory, memory}
 use Rattle.search.specs.declared.Stepped.{Stepped}
 use Rattle.search.specs.declared.Stepped.the-variants.{Next, Ended, NoRoom}
@@ -82,16 +83,19 @@ ranFrom splits OpenNoRoom u = refused 19
 abbrev pub search : Question → Answer
 search q = let o = openDef q (replicate 8 zero64) (replicate 8 zero64) (room (q .splits)) in ranFrom (q .splits) (o .answer) (o .memory)
 
--- A case: a number and its root by their patterns; a line, a range of it and its pieces' nets, four numbers a point; a question and its answer.
+-- A case: a number and its root by their patterns; a line, a range of it and its pieces' nets, four numbers a point; a question with the number and the line of what is wrong with
+-- it, 0 and 0 if nothing is; a question and its answer.
 pub data Case : Type 0 where
   root : ℕ → ℕ → Case
   pieces : Line → Float → Float → List Float → Case
+  asking : Question → ℕ × ℕ → Case
   searching : Question → Answer → Case
 
 -- it comes out as it says
 abbrev pub Holds : Case → Type 0
 Holds (root x r) = (toBits binary64 (rootOf (ofBits binary64 x)) ≡ r)
 Holds (pieces l lo hi nets) = (piecesOf (l .degree) (l .knots) (l .mults) (l .coords) (l .weights) lo hi ≡ nets)
+Holds (asking q n) = (askedPlace q ≡ n)
 Holds (searching q a) = (search q ≡ a)
 
 -- degree 2, knots 0, 1, 2 with multiplicities 3, 1, 3, poles (0,0,0), (0,2,0), (2,2,0), (2,0,0)
@@ -142,10 +146,11 @@ starred =
     (record { word = 0; counts = 0 ∷ 0 ∷ 0 ∷ 0 ∷ 0 ∷ 0 ∷ 0 ∷ []; regions = []; left = [] })
     ∷ []
 
--- One more, with the bits that the Rust gives: a line of degree 3 with weights over a range inside its bounds.
+-- ---- further cases
 abbrev pub floats : List ℕ → List Float
 floats l = map (ofBits binary64) l
 
+-- degree 3 with weights, cut on one side of either piece
 abbrev pub weighted : Case
 weighted = pieces
     (record {
@@ -168,3 +173,60 @@ weighted = pieces
     0xc00b_9999_9999_9999 ∷ 0x400a_a3d7_0a3d_70a6 ∷ 0xc014_6666_6666_6666 ∷ 0x3ff7_851e_b851_eb86 ∷
     0xbfea_6666_6666_6664 ∷ 0x401d_75c2_8f5c_28f7 ∷ 0xc016_3333_3333_3333 ∷ 0x3ffe_f5c2_8f5c_28f7 ∷
     0x3ff8_9999_9999_999a ∷ 0x4025_90a3_d70a_3d71 ∷ 0xc01a_1999_9999_999a ∷ 0x4001_8a3d_70a3_d70b ∷ []))
+
+-- degree 3 with weights, cut on both sides of its one piece: another rounding in any step, from the coefficients to the second cut, changes a bit
+abbrev pub cutTwice : Case
+cutTwice = pieces
+    (record {
+      degree = 3;
+      knots = floats (0 ∷ 0x3fec_cccc_cccc_cccd ∷ 0x3ffe_6666_6666_6666 ∷ []);
+      mults = 4 ∷ 1 ∷ 4 ∷ [];
+      coords = floats (
+          0xc018_0000_0000_0000 ∷ 0xc014_0000_0000_0000 ∷ 0xc01c_0000_0000_0000 ∷ 0xc020_0000_0000_0000 ∷ 0xc022_0000_0000_0000 ∷ 0x4020_0000_0000_0000 ∷
+          0xc000_0000_0000_0000 ∷ 0xc010_0000_0000_0000 ∷ 0x4008_0000_0000_0000 ∷ 0xbff0_0000_0000_0000 ∷ 0xbff0_0000_0000_0000 ∷ 0xc01c_0000_0000_0000 ∷
+          0x4014_0000_0000_0000 ∷ 0x4000_0000_0000_0000 ∷ 0x4022_0000_0000_0000 ∷ []);
+      weights = floats (0x4000_0000_0000_0000 ∷ 0x4008_0000_0000_0000 ∷ 0x4000_0000_0000_0000 ∷ 0x3ff0_0000_0000_0000 ∷ 0x4000_0000_0000_0000 ∷ []);
+    })
+    (ofBits binary64 0x3fc7_0a3d_70a3_d70b) (ofBits binary64 0x3fe9_eb85_1eb8_51ec)
+    (floats (
+    0xc030_d351_8467_ba3e ∷ 0xc031_4f3e_063a_a619 ∷ 0x400c_c8c2_bf49_5ee0 ∷ 0x4003_7ac5_af96_cc28 ∷
+    0xc033_ebbf_f063_3632 ∷ 0xc036_bba1_5978_8f48 ∷ 0x4032_813b_275a_c0c8 ∷ 0x4006_1bcf_4776_e44d ∷
+    0xc02d_f1e6_415d_a57a ∷ 0xc032_3a6a_8d7f_cc73 ∷ 0x402e_9102_0f31_5109 ∷ 0x4004_1dbf_f919_fa2f ∷
+    0xc025_4ed4_5e32_57e8 ∷ 0xc02b_4610_e503_4eb8 ∷ 0x4024_8d9d_3546_bfe8 ∷ 0x4001_8bcd_8df5_6fc7 ∷ []))
+
+-- degree 2 with free ends, knots 0 to 5 once each, poles (0,0,0), (1,2,0), (3,1,0): its bounds are 2 and 3
+abbrev pub freeEnds : Line
+freeEnds = record {
+  degree = 2;
+  knots = zero64 ∷ one64 ∷ two64 ∷ three64 ∷ floats (0x4010_0000_0000_0000 ∷ 0x4014_0000_0000_0000 ∷ []);
+  mults = 1 ∷ 1 ∷ 1 ∷ 1 ∷ 1 ∷ 1 ∷ [];
+  coords = zero64 ∷ zero64 ∷ zero64 ∷ one64 ∷ two64 ∷ zero64 ∷ three64 ∷ one64 ∷ zero64 ∷ [];
+  weights = [];
+}
+
+-- a range of it, against all of A
+abbrev pub ofFreeEnds : Float → Float → Question
+ofFreeEnds lo hi = record { line1 = freeEnds; lo1 = lo; hi1 = hi; line2 = lineA; lo2 = zero64; hi2 = one64; gap = zero64; splits = 0 }
+
+-- 2 and 3, the one lower and the other higher by one double
+abbrev pub belowTwo64 : Float
+belowTwo64 = ofBits binary64 0x3fff_ffff_ffff_ffff
+
+abbrev pub aboveThree64 : Float
+aboveThree64 = ofBits binary64 0x4008_0000_0000_0001
+
+-- Nets with the bits that the Rust gives, and the bounds of a line with free ends.
+abbrev pub further : List Case
+further =
+    weighted
+    ∷ cutTwice
+    -- half-way to three quarters of (0,0,0) to (8,0,0): the second cut is at half of what the first leaves
+    ∷ pieces (straight zero64 zero64 (ofBits binary64 0x4020_0000_0000_0000) zero64) half64 (ofBits binary64 0x3fe8_0000_0000_0000)
+    (at (ofBits binary64 0x4010_0000_0000_0000) zero64 (at (ofBits binary64 0x4018_0000_0000_0000) zero64 []))
+    -- (0.5,1), (1,2), (2,1.5)
+    ∷ pieces freeEnds two64 three64 (at half64 one64 (at one64 two64 (at two64 (ofBits binary64 0x3ff8_0000_0000_0000) [])))
+    -- up to its bounds and no further
+    ∷ asking (ofFreeEnds two64 three64) (0, 0)
+    ∷ asking (ofFreeEnds two64 aboveThree64) (15, 1)
+    ∷ asking (ofFreeEnds belowTwo64 three64) (15, 1)
+    ∷ []
