@@ -194,6 +194,27 @@ cutTwice = pieces
     0xc02d_f1e6_415d_a57a ∷ 0xc032_3a6a_8d7f_cc73 ∷ 0x402e_9102_0f31_5109 ∷ 0x4004_1dbf_f919_fa2f ∷
     0xc025_4ed4_5e32_57e8 ∷ 0xc02b_4610_e503_4eb8 ∷ 0x4024_8d9d_3546_bfe8 ∷ 0x4001_8bcd_8df5_6fc7 ∷ []))
 
+-- degree 2, two pieces whose common point is rounded differently from either side, since the knots are taken relative to the middle of each
+abbrev pub fromEitherSide : Case
+fromEitherSide = pieces
+    (record {
+      degree = 2;
+      knots = floats (0x3fc9_9999_9999_999a ∷ 0x3fe9_9999_9999_999a ∷ 0x3ff0_0000_0000_0000 ∷ []);
+      mults = 3 ∷ 1 ∷ 3 ∷ [];
+      coords = floats (
+          0x4010_0000_0000_0000 ∷ 0x4010_0000_0000_0000 ∷ 0 ∷ 0xbff0_0000_0000_0000 ∷ 0xbff0_0000_0000_0000 ∷ 0 ∷
+          0 ∷ 0x4000_0000_0000_0000 ∷ 0 ∷ 0xc010_0000_0000_0000 ∷ 0x4000_0000_0000_0000 ∷ 0 ∷ []);
+      weights = [];
+    })
+    (ofBits binary64 0x3fc9_9999_9999_999a) one64
+    (floats (
+    0x4010_0000_0000_0000 ∷ 0x4010_0000_0000_0000 ∷ 0 ∷ 0x3ff0_0000_0000_0000 ∷
+    0xbff0_0000_0000_0000 ∷ 0xbff0_0000_0000_0000 ∷ 0 ∷ 0x3ff0_0000_0000_0000 ∷
+    0xbfcf_ffff_ffff_fffc ∷ 0x3ff4_0000_0000_0002 ∷ 0 ∷ 0x3ff0_0000_0000_0000 ∷
+    0xbfd0_0000_0000_0000 ∷ 0x3ff4_0000_0000_0000 ∷ 0 ∷ 0x3ff0_0000_0000_0000 ∷
+    0xbca0_0000_0000_0000 ∷ 0x3fff_ffff_ffff_fffe ∷ 0 ∷ 0x3ff0_0000_0000_0000 ∷
+    0xc010_0000_0000_0000 ∷ 0x4000_0000_0000_0000 ∷ 0 ∷ 0x3ff0_0000_0000_0000 ∷ []))
+
 -- degree 2 with free ends, knots 0 to 5 once each, poles (0,0,0), (1,2,0), (3,1,0): its bounds are 2 and 3
 abbrev pub freeEnds : Line
 freeEnds = record {
@@ -220,6 +241,7 @@ abbrev pub further : List Case
 further =
     weighted
     ∷ cutTwice
+    ∷ fromEitherSide
     -- half-way to three quarters of (0,0,0) to (8,0,0): the second cut is at half of what the first leaves
     ∷ pieces (straight zero64 zero64 (ofBits binary64 0x4020_0000_0000_0000) zero64) half64 (ofBits binary64 0x3fe8_0000_0000_0000)
     (at (ofBits binary64 0x4010_0000_0000_0000) zero64 (at (ofBits binary64 0x4018_0000_0000_0000) zero64 []))
