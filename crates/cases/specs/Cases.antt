@@ -1,5 +1,5 @@
 -- Document 01's starred lines as one list of cases: roots, the pieces of a line, and whole searches (the opening, the loop with the own verdicts, the report, in as much memory
--- as they need). Definitions only.
+-- as they need). A second list has nets with the Rust's bits and the bounds of a line with free ends. Definitions only.
 use mathlib.Core.Path.{_≡_}
 use mathlib.Core.List.{List, [], _∷_, map}
 use Prim.Native.Nat.{ℕ, suc, _*_}
@@ -88,14 +88,14 @@ search q = let o = openDef q (replicate 8 zero64) (replicate 8 zero64) (room (q 
 pub data Case : Type 0 where
   root : ℕ → ℕ → Case
   pieces : Line → Float → Float → List Float → Case
-  asking : Question → ℕ × ℕ → Case
+  testing : Question → ℕ × ℕ → Case
   searching : Question → Answer → Case
 
 -- it comes out as it says
 abbrev pub Holds : Case → Type 0
 Holds (root x r) = (toBits binary64 (rootOf (ofBits binary64 x)) ≡ r)
 Holds (pieces l lo hi nets) = (piecesOf (l .degree) (l .knots) (l .mults) (l .coords) (l .weights) lo hi ≡ nets)
-Holds (asking q n) = (askedPlace q ≡ n)
+Holds (testing q n) = (askedPlace q ≡ n)
 Holds (searching q a) = (search q ≡ a)
 
 -- degree 2, knots 0, 1, 2 with multiplicities 3, 1, 3, poles (0,0,0), (0,2,0), (2,2,0), (2,0,0)
@@ -174,7 +174,7 @@ weighted = pieces
     0xbfea_6666_6666_6664 ∷ 0x401d_75c2_8f5c_28f7 ∷ 0xc016_3333_3333_3333 ∷ 0x3ffe_f5c2_8f5c_28f7 ∷
     0x3ff8_9999_9999_999a ∷ 0x4025_90a3_d70a_3d71 ∷ 0xc01a_1999_9999_999a ∷ 0x4001_8a3d_70a3_d70b ∷ []))
 
--- degree 3 with weights, cut on both sides of its one piece: another rounding in any step, from the coefficients to the second cut, changes a bit
+-- degree 3 with weights, cut on both sides of its one piece: α, a blend, a share, a cut or g made in another order of operations changes a bit
 abbrev pub cutTwice : Case
 cutTwice = pieces
     (record {
@@ -248,7 +248,7 @@ further =
     -- (0.5,1), (1,2), (2,1.5)
     ∷ pieces freeEnds two64 three64 (at half64 one64 (at one64 two64 (at two64 (ofBits binary64 0x3ff8_0000_0000_0000) [])))
     -- up to its bounds and no further
-    ∷ asking (ofFreeEnds two64 three64) (0, 0)
-    ∷ asking (ofFreeEnds two64 aboveThree64) (15, 1)
-    ∷ asking (ofFreeEnds belowTwo64 three64) (15, 1)
+    ∷ testing (ofFreeEnds two64 three64) (0, 0)
+    ∷ testing (ofFreeEnds two64 aboveThree64) (15, 1)
+    ∷ testing (ofFreeEnds belowTwo64 three64) (15, 1)
     ∷ []
