@@ -1,22 +1,16 @@
 // The Bezier pieces of an admitted line over an asked range.
 ghost use mathlib.Core.Path.{_≡_};
-ghost use Prim.Native.Nat.{_+_, _-_, _*_, _/_, _≤_};
+ghost use Prim.Native.Nat.{_+_, _-_, _*_, _≤_};
 ghost use lib.Dec.{leb};
-ghost use lib.ListN.{length};
+ghost use lib.ListN.{length, take};
 ghost use Rattle.lists.specs.Parts.{patch};
+ghost use Rattle.lists.specs.Tests.{total};
 ghost use Rattle.lines.specs.declared.Admission.the-variants.{Admitted};
 ghost use Rattle.lines.specs.Admit.{admitOf};
-ghost use Rattle.poles.specs.Poles.{homogeneousPoles};
-ghost use Rattle.knots.specs.Knots.{breaksOf};
+ghost use Rattle.knots.specs.Knots.{flatKnots, breaksOf};
 ghost use Rattle.pieces.specs.Pieces.{netsOf};
 ghost use Rattle.curves.specs.Curves.{pieceCount, piecesOf};
-
-// Room for 128 poles of four numbers.
-fn pole_room() -> [f64; 512]
-    ensures { λ r. ⌜ length r ≡ 512 ⌝ }
-{
-    [0.0f64; 512]
-}
+use poles::Poles;
 
 // How many pieces the range has.
 pub fn piece_count(knots: &[f64], lo: f64, hi: f64) -> usize
@@ -55,37 +49,58 @@ fn with_breaks(
     pieces::nets(knots, flat, poles, p, &b[..n], out);
 }
 
+// The nets from the poles at the front of an array: as many as the flat knots say.
 fn with_poles(
+    degree: u32,
     knots: &[f64],
-    flat: &[f64],
-    coords: &[f64],
-    weights: &[f64],
-    p: usize,
+    mults: &[u32],
+    poles: [f64; 512],
     lo: f64,
     hi: f64,
     out: &mut [f64],
 )
-    requires { ⌜ (1 ≤ p)
-        × (p ≤ 25)
-        × (p + 1 ≤ length (now coords) / 3)
-        × (length (now coords) / 3 ≤ 128)
-        × (length (now flat) ≡ length (now coords) / 3 + p + 1) ⌝ }
-    requires { ⌜ (2 ≤ length (now knots)) × (length (now knots) ≤ 128) × (pieceCount lo hi (now knots) * (4 * (p + 1)) ≤ length (now out)) ⌝ }
+    requires { ⌜ (1 ≤ degree)
+        × (degree ≤ 25)
+        × (length (now mults) ≡ length (now knots))
+        × (2 * degree + 2 ≤ total (now mults))
+        × (total (now mults) ≤ degree + 129)
+        × (length poles ≡ 512)
+        × (2 ≤ length (now knots))
+        × (length (now knots) ≤ 128)
+        × (pieceCount lo hi (now knots) * (4 * (degree + 1)) ≤ length (now out)) ⌝ }
     ensures { λ r. ⌜ now (out .exit)
         ≡ patch (now (out .entry)) 0
-        (netsOf p (now (knots .entry)) (now (flat .entry))
-        (homogeneousPoles (now (coords .entry)) (now (weights .entry)) (length (now (coords .entry)) / 3) 0) (breaksOf lo hi (now (knots .entry)))) ⌝ }
+        (netsOf degree (now (knots .entry)) (flatKnots (now (knots .entry)) (now (mults .entry)))
+        (take (4 * (total (now (mults .entry)) - (degree + 1))) poles) (breaksOf lo hi (now (knots .entry)))) ⌝ }
 {
-    let n = coords.len() / 3;
-    let len = 4 * n;
-    let mut h = pole_room();
-    let poles = &mut h[..len];
-    poles::line_poles(coords, weights, poles);
-    with_breaks(knots, flat, poles, p, lo, hi, out);
+    let mut f = knots::flat_room();
+    let n = knots::flat_knots(knots, mults, &mut f);
+    let p = knots::count(degree);
+    let len = 4 * (n - (p + 1));
+    with_breaks(knots, &f[..n], &poles[..len], p, lo, hi, out);
 }
 
-// The nets of all pieces, one after the other from the front of `out`: `CurvePieces::new`.
-pub fn curve_pieces(
+// The nets of all pieces, one after the other from the front of `out`: `CurvePieces::new`. The poles are read through their view.
+fn curve_pieces<'k, 'm, 'a, 'b, 'o>(
+    degree: u32,
+    knots: &'k [f64],
+    mults: &'m [u32],
+    poles: Poles<'a, 'b>,
+    lo: f64,
+    hi: f64,
+    out: &'o mut [f64],
+)
+    requires { ⌜ (admitOf degree (now knots) (now mults) (now (poles .coords)) (now (poles .weights)) ≡ Admitted)
+        × (pieceCount lo hi (now knots) * (4 * (degree + 1)) ≤ length (now out)) ⌝ }
+    ensures { λ r. ⌜ now (out .exit)
+        ≡ patch (now (out .entry)) 0
+        (piecesOf degree (now (knots .entry)) (now (mults .entry)) (now (poles .entry .coords)) (now (poles .entry .weights)) lo hi) ⌝ }
+{
+    with_poles(degree, knots, mults, poles.homogeneous_poles(), lo, hi, out)
+}
+
+// The nets of a line given by its slices: the view of its poles is made here and handed down.
+pub fn line_pieces(
     degree: u32,
     knots: &[f64],
     mults: &[u32],
@@ -95,21 +110,10 @@ pub fn curve_pieces(
     hi: f64,
     out: &mut [f64],
 )
-    requires { ⌜ admitOf degree (now knots) (now mults) (now coords) (now weights) ≡ Admitted ⌝ }
-    requires { ⌜ pieceCount lo hi (now knots) * (4 * (degree + 1)) ≤ length (now out) ⌝ }
+    requires { ⌜ (admitOf degree (now knots) (now mults) (now coords) (now weights) ≡ Admitted)
+        × (pieceCount lo hi (now knots) * (4 * (degree + 1)) ≤ length (now out)) ⌝ }
     ensures { λ r. ⌜ now (out .exit)
         ≡ patch (now (out .entry)) 0 (piecesOf degree (now (knots .entry)) (now (mults .entry)) (now (coords .entry)) (now (weights .entry)) lo hi) ⌝ }
 {
-    let mut f = knots::flat_room();
-    let n = knots::flat_knots(knots, mults, &mut f);
-    with_poles(
-        knots,
-        &f[..n],
-        coords,
-        weights,
-        knots::count(degree),
-        lo,
-        hi,
-        out,
-    );
+    curve_pieces(degree, knots, mults, Poles { coords, weights }, lo, hi, out)
 }

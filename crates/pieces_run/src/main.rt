@@ -274,7 +274,7 @@ fn print_pieces(
 {
     let n = curves::piece_count(knots, lo, hi);
     let mut out = net_room();
-    curves::curve_pieces(degree, knots, mults, coords, weights, lo, hi, &mut out);
+    curves::line_pieces(degree, knots, mults, coords, weights, lo, hi, &mut out);
     print_nets(line, n, knots::count(degree) + 1, &out);
 }
 

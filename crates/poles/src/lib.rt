@@ -1,7 +1,7 @@
 // The poles of a line: both slices in one borrowed view, thin functions over it, and the work on the slices.
 ghost use mathlib.Core.Path.{_≡_};
 ghost use Prim.Native.Nat.{_+_, _*_, _≤_};
-ghost use lib.ListN.{length};
+ghost use lib.ListN.{length, take};
 ghost use Rattle.poles.specs.Poles.{poleCount, weightOf, homogeneousOf, homogeneousPoles};
 
 // The poles of a line, three coordinates each, and their weights, none for all 1: `Poles` of the Rust.
@@ -26,22 +26,29 @@ impl<'a, 'b> Poles<'a, 'b> {
         homogeneous(self.coords, self.weights, i)
     }
 
-    // The first `n` poles, four numbers each.
-    pub fn homogeneous_poles<'o>(self, n: usize, out: &'o mut [f64])
-        requires { ⌜ (n ≤ 128) × (3 * n ≤ length (now (self .coords))) × (length (now out) ≡ 4 * n) ⌝ }
-        ensures { λ r. ⌜ now (out .exit) ≡ homogeneousPoles (now (self .entry .coords)) (now (self .entry .weights)) n 0 ⌝ }
+    // All poles, four numbers each, from the front of an array with room for 128.
+    pub fn homogeneous_poles(self) -> [f64; 512]
+        requires { ⌜ poleCount (now (self .coords)) ≤ 128 ⌝ }
+        ensures { λ r. ⌜ (length r ≡ 512)
+            × (take (4 * poleCount (now (self .entry .coords))) r
+            ≡ homogeneousPoles (now (self .entry .coords)) (now (self .entry .weights)) (poleCount (now (self .entry .coords))) 0) ⌝ }
     {
-        homogeneous_poles(self.coords, self.weights, n, out)
+        let n = self.len();
+        let mut out = pole_room();
+        let mut i = 0;
+        while i < n {
+            points::put(&mut out, 4 * i, self.homogeneous(i));
+            i += 1;
+        }
+        out
     }
 }
 
-// All poles of a line, four numbers each, read through the view.
-pub fn line_poles(coords: &[f64], weights: &[f64], out: &mut [f64])
-    requires { ⌜ (poleCount (now coords) ≤ 128) × (length (now out) ≡ 4 * poleCount (now coords)) ⌝ }
-    ensures { λ r. ⌜ now (out .exit) ≡ homogeneousPoles (now (coords .entry)) (now (weights .entry)) (poleCount (now (coords .entry))) 0 ⌝ }
+// Room for 128 poles of four numbers.
+fn pole_room() -> [f64; 512]
+    ensures { λ r. ⌜ length r ≡ 512 ⌝ }
 {
-    let p = Poles { coords, weights };
-    p.homogeneous_poles(p.len(), out)
+    [0.0f64; 512]
 }
 
 // Weight `i`, 1 where there is none.
@@ -65,17 +72,5 @@ fn homogeneous(coords: &[f64], weights: &[f64], i: usize) -> points::Point4D
         y: coords[3 * i + 1] * w,
         z: coords[3 * i + 2] * w,
         w: w,
-    }
-}
-
-// The first `n` poles, four numbers each.
-fn homogeneous_poles(coords: &[f64], weights: &[f64], n: usize, out: &mut [f64])
-    requires { ⌜ (n ≤ 128) × (3 * n ≤ length (now coords)) × (length (now out) ≡ 4 * n) ⌝ }
-    ensures { λ r. ⌜ now (out .exit) ≡ homogeneousPoles (now (coords .entry)) (now (weights .entry)) n 0 ⌝ }
-{
-    let mut i = 0;
-    while i < n {
-        points::put(out, 4 * i, homogeneous(coords, weights, i));
-        i += 1;
     }
 }

@@ -15,11 +15,11 @@ piece-count-requires c κs =
 net-room-requires : tie.Need-net-room-requires
 net-room-requires c κs = search needs
 
-slice-aggregate-curve-pieces : tie.Need-slice-aggregate-curve-pieces
-slice-aggregate-curve-pieces c = search needs
+slice-aggregate-line-pieces : tie.Need-slice-aggregate-line-pieces
+slice-aggregate-line-pieces c = search needs
 
-curve-pieces-requires : tie.Need-curve-pieces-requires
-curve-pieces-requires c κs =
+line-pieces-requires : tie.Need-line-pieces-requires
+line-pieces-requires c κs =
     let args = c .before .before .before .before .before .before .before .args in
     let pre = c .before .before .before .before .before .before .before .pre in
     let k = counts (args .degree) (args .knots .now) (args .mults .now) (args .coords .now) (args .weights .now) (pre) in
@@ -49,7 +49,7 @@ print-nets-requires c κs =
       omega (
         arith,
         laws.small (n .result) (d .result) (n .ensures .2) m,
-        c .before .before .before .curve-pieces .kept .1 .1 .1 .1 .1 .1 .1 .0,
+        c .before .before .before .line-pieces .kept .1 .1 .1 .1 .1 .1 .1 .0,
         c .before .before .before .before .before .net-room .ensures,
       ),
     )
@@ -63,8 +63,8 @@ print-pieces-spec =
     (tie.spec
     piece-count-requires
     net-room-requires
-    slice-aggregate-curve-pieces
-    curve-pieces-requires
+    slice-aggregate-line-pieces
+    line-pieces-requires
     count-requires
     add-print-nets
     slice-aggregate-print-nets
