@@ -1,11 +1,10 @@
--- Laws of parts of local arrays. Assumes nothing.
-use mathlib.Core.Path.{_≡_, refl, sym, ap, _∙_}
+-- Laws of the nets' room and of the lists that the nets are made of. Assumes nothing.
+use mathlib.Core.Path.{_≡_, refl}
 use mathlib.Core.List.{List}
 use Prim.Native.Nat.{ℕ, _+_, _-_, _*_, _/_, _^_, _≤_, _<_}
 use native.Mathlib.Nat.{mul-le-mul}
 use native.Mathlib.Omega.{arith}
 use lib.ListN.{length, take}
-use lib.Seq.{length-take-le}
 use lib.Ieee.{Float}
 use Rattle.lists.specs.Parts.{patch}
 use Rattle.lists.specs.Tests.{total}
@@ -14,9 +13,7 @@ use Rattle.knots.specs.Knots.{flatKnots, breaksOf}
 use Rattle.pieces.specs.Pieces.{netsOf}
 use Rattle.curves.specs.Curves.{piecesOf}
 
-pub length-of : (n : ℕ) (b l : List Float) → n ≤ length b → take n b ≡ l → length l ≡ n
-length-of n b l h e = sym (ap length e) ∙ length-take-le n b h
-
+-- room for one piece fewer than there are breaks, at equal breaks
 pub room-of : {l l' : List Float} (k m : ℕ) → l ≡ l' → (length l' - 1) * k ≤ m → (length l - 1) * k ≤ m
 room-of k m e h = rw e h
 
@@ -24,6 +21,7 @@ room-of k m e h = rw e h
 pub fits : {d p : ℕ} (n m : ℕ) → d ≡ p → n * (4 * (p + 1)) ≤ m → n * (4 * (d + 1)) ≤ m
 fits n m e h = rw e h
 
+-- the nets of equal lists
 pub nets-of : {d p : ℕ} {flat flat' poles poles' : List Float} (knots breaks out : List Float) → d ≡ p → flat ≡ flat' → poles ≡ poles'
     → patch out 0 (netsOf d knots flat poles breaks) ≡ patch out 0 (netsOf p knots flat' poles' breaks)
 nets-of knots breaks out e f g = rw (e, f, g) refl

@@ -1,4 +1,4 @@
-// The poles of a line: both slices in one borrowed view, thin functions over it, and the work on the slices.
+// The poles of a line: both slices in one borrowed view, the functions over it, and one pole's arithmetic on the slices.
 ghost use mathlib.Core.Path.{_≡_};
 ghost use Prim.Native.Nat.{_+_, _*_, _≤_};
 ghost use lib.ListN.{length, take};
