@@ -1,35 +1,20 @@
 -- Laws of words, floats and parts: what each case of a test and each turn of a loop gives. Assumes nothing.
-use mathlib.Core.Path.{_≡_, refl, sym, ap, _∙_, subst}
+use mathlib.Core.Path.{_≡_, refl, sym, ap, _∙_}
 use mathlib.Core.Logic.{_⊎_, inl, inr}
 use mathlib.Core.Bool.{Bool, true, false, not, _&&_, _||_}
 use mathlib.Core.List.{List, [], _∷_}
-use Prim.Native.Nat.{ℕ, zero, suc, _+_, _*_, _-_, _%_, _≤_, _<_}
+use Prim.Native.Nat.{ℕ, zero, suc, _+_, _*_, _-_, _≤_, _<_}
 use native.Mathlib.Nat.{add-zero}
 use native.Mathlib.Numerals.{add-one}
 use native.Mathlib.Omega.{arith}
-use lib.Dec.{T, eqb}
+use lib.Dec.{eqb}
 use lib.ListN.{length, set, take-append-drop}
 use lib.Seq.{set-split}
-use lib.Ieee.{Float, nan, inf, fin, binary64, ofBits, nanBits, isNan}
-use lib.Ieee.Bits.{nanBits-is, nanBits-above}
-use borrow.Author.Tests.{lt-ltb, le-ltb, ne-eqb}
+use borrow.Author.Tests.{ne-eqb}
 use Rattle.lists.specs.Parts.{patch}
 use Rattle.lists.proofs.Parts.{patch-twice}
 use Rattle.walks.specs.Words.{wordsFrom, floatsFrom}
 use Rattle.walks.specs.Sheets.{badCount, sizeOf}
-
--- ---- patterns of NaNs
-is-nan : (x : Float) → isNan x ≡ true → nan ≡ x
-unfolding isNan
-is-nan nan h = refl
-is-nan (inf s) h = absurd (subst T (sym h) tt)
-is-nan (fin s m e) h = absurd (subst T (sym h) tt)
-
-pub above-is-nan : (n : ℕ) → 0x7ff0_0000_0000_0000 < n % 0x8000_0000_0000_0000 → nan ≡ ofBits binary64 n
-above-is-nan n h = is-nan (ofBits binary64 n) (sym (nanBits-is binary64 n) ∙ nanBits-above binary64 n ∙ lt-ltb _ _ h)
-
-pub not-above : (n : ℕ) → n % 0x8000_0000_0000_0000 ≤ 0x7ff0_0000_0000_0000 → T (not (nanBits binary64 n))
-not-above n h = subst (λ b. T (not b)) (sym (nanBits-above binary64 n ∙ le-ltb _ _ h)) tt
 
 -- ---- a loop that reads elements of w bytes from place `at` on into the start of a list, f n a being the n elements from place a on
 pub read-start : {A : Type 0} (f : ℕ → ℕ → List A) (w : ℕ) (out : List A) (at n : ℕ) → patch out 0 (f (at + w * 0) (n - 0)) ≡ patch out 0 (f at n)

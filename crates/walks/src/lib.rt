@@ -4,7 +4,6 @@ ghost use mathlib.Core.Path.{_≡_};
 ghost use Prim.Native.Nat.{_+_, _*_, _<_, _≤_};
 ghost use lib.Dec.{eqb};
 ghost use lib.ListN.{length};
-ghost use lib.Ieee.{binary64, ofBits};
 ghost use Rattle.lists.specs.Parts.{patch};
 ghost use Rattle.walks.specs.Words.{wordAt, floatAt, wordsFrom, floatsFrom};
 ghost use Rattle.walks.specs.Sheets.{walked, badCount, badLength, sizeOf, partOf, weightsOf, walkOf};
@@ -51,23 +50,13 @@ fn word(s: &[u8], at: usize) -> u32
     wide(s[at]) + wide(s[at + 1]) * 256 + wide(s[at + 2]) * 65536 + wide(s[at + 3]) * 16777216
 }
 
-// The float of any pattern: a NaN's pattern is never handed to `from_bits`.
-fn float(n: u64) -> f64
-    ensures { λ r. ⌜ r ≡ ofBits binary64 n ⌝ }
-{
-    if n % 0x8000_0000_0000_0000 > 0x7ff0_0000_0000_0000 {
-        return 0.0 / 0.0;
-    }
-    f64::from_bits(n)
-}
-
 pub fn float_at(s: &[u8], at: usize) -> f64
     requires { ⌜ at + 8 ≤ length (now s) ⌝ }
     ensures { λ r. ⌜ r ≡ floatAt (now (s .entry)) at ⌝ }
 {
     let low = word(s, at) as u64;
     let high = word(s, at + 4) as u64;
-    float(low + high * 4294967296)
+    patterns::float(low + high * 4294967296)
 }
 
 // The first `n` of `out` become the floats from `at` on.

@@ -1,9 +1,9 @@
 -- The float of any pattern, a NaN's or another. Assumes nothing.
 use borrow.Author.Needs.{needs}
 use lib.Ieee.{div, ofBits}
-use Rattle.walks.proofs.Laws.{above-is-nan, not-above}
-use Rattle.walks.proofs.float.Statement.{statement}
-use Rattle.walks.proofs.float.Tie as tie
+use Rattle.patterns.proofs.Laws.{above-is-nan, not-above}
+use Rattle.patterns.proofs.float.Statement.{statement}
+use Rattle.patterns.proofs.float.Tie as tie
 
 returns : tie.Need-returns
 unfolding div ofBits
