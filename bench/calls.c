@@ -62,8 +62,8 @@ int main(int argc, char **argv)
                 first.degree, first.knots, first.knot_count, first.mults, first.mult_count, first.coords, first.coord_count, first.weights, first.weight_count,
                 second.degree, second.knots, second.knot_count, second.mults, second.mult_count, second.coords, second.coord_count, second.weights, second.weight_count,
                 SLICE(pieces1), SLICE(pieces2), SLICE(nets1), SLICE(nets2), SLICE(ranges), SLICE(depths), SLICE(raw), SLICE(state)) != 0
-            || lovgurshem_run(SLICE(state), asked[4], SLICE(nets1), SLICE(nets2), SLICE(ranges), SLICE(depths), SLICE(raw)) != 0
-            || lovgurshem_report(SLICE(state), asked[4], SLICE(nets1), SLICE(nets2), SLICE(ranges), SLICE(depths), SLICE(raw), SLICE(report), SLICE(counts)) != 0)
+            || lovgurshem_run(SLICE(state), SLICE(nets1), SLICE(nets2), SLICE(ranges), SLICE(depths), SLICE(raw)) != 0
+            || lovgurshem_report(SLICE(state), SLICE(nets1), SLICE(nets2), SLICE(ranges), SLICE(depths), SLICE(raw), SLICE(report), SLICE(counts)) != 0)
             return 1;
     printf("%u %u\n", (unsigned)counts[0], (unsigned)counts[8]);
     return 0;

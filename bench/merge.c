@@ -47,7 +47,7 @@ static double timed(size_t n, uint64_t *regions)
         double start = seconds(), spent = 0.0;
         long turns = 0;
         do {
-            if (lovgurshem_report(state, LOVGURSHEM_STATE, 0.0, nets[0], 4 * WIDTH * NODES, nets[1], 4 * WIDTH * NODES, ranges, 4 * NODES,
+            if (lovgurshem_report(state, LOVGURSHEM_STATE, nets[0], 4 * WIDTH * NODES, nets[1], 4 * WIDTH * NODES, ranges, 4 * NODES,
                     depths, NODES, raw, 10 * n, report, 10 * n, counts, LOVGURSHEM_COUNTS) != 0)
                 exit(1);
             turns++;

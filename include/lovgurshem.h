@@ -29,19 +29,37 @@
  * refusal: 4 to 14 a line's fault, 15 to 18 the question's, 19 a slice that is
  * shorter than needed or a state that is no search's, 20 a search that has
  * ended, 21 one that hasn't. A line's fault, range or breaks (4 to 15 and 18)
- * have 256 times the line, 1 or 2, added.
+ * have 256 times the line, 1 or 2, added. They are tested in this order:
+ *   open     4 to 14 of the first line, then of the second; 15 to 18; 19 for
+ *            the state's words and the pieces; 19 for the rest
+ *   others   19 for words that are no state's (below), before everything else;
+ *            then own verdict and step 20, then 19; report 21, then 19, for
+ *            its counts too
  *
- * STATE. A search's state is LOVGURSHEM_STATE words and the gap, which the
- * caller hands to each call as it handed it to the opening. The words are the
- * starting pairs P, the splits per pair S, nodes waiting, visits, splits,
- * allowance left, nodes settled, nodes given up, the points of a net of the
- * first line and of the second, and whether the search was stopped: 16, 16,
- * 32, 64, 32, 32, 32, 32, 8, 8 and 1 bits. The state and the lent memory
- * (nets, ranges, depths, raw) belong together: carry both on from call to call
- * as the last one left them. Then each call reads the state that the last one
- * answered. Fewer words, or a word beyond its width, is number 19, before
- * anything else and with nothing written; words behind the eleventh are left
- * alone.
+ * STATE. A search's state is LOVGURSHEM_STATE words, written whole by the
+ * opening. Later calls take no gap and no other part of the question: all that
+ * they need is in the words and in the lent memory.
+ *   word      bits
+ *   0         16    starting pairs, P
+ *   1         16    splits per pair, S
+ *   2         32    nodes waiting
+ *   3         64    visits
+ *   4         32    splits
+ *   5         32    allowance left
+ *   6         32    nodes settled
+ *   7         32    nodes given up
+ *   8, 9      2-26  points of a net of the first line, and of the second
+ *   10        1     whether the search was stopped
+ *   11        64    the gap, as the bits of a double
+ *   12 to 22  none  0; kept for what is to come
+ * Fewer words, a word beyond its bits, a width (8, 9) that isn't 2 to 26 or a
+ * word without bits that isn't 0 are no state's. Every pattern of word 11 is a
+ * gap, a NaN's too. A step and the loop write words 2 to 7 and 10; the others,
+ * and words behind the last, are left alone. Own verdict and report write none.
+ *
+ * The state and the lent memory (nets, ranges, depths, raw) belong together:
+ * carry both on from call to call as the last one left them. Then each call
+ * reads the state that the last one answered.
  *
  * SIZES, in elements, for P starting pairs, S splits per pair and
  * width = degree + 1 of a line:
@@ -54,6 +72,11 @@
  * P is at most the product of the two counts of pieces, and known after the
  * opening. A call that needs a slice and is lent a shorter one is number 19;
  * a step or report then changes nothing, and lent enough the next call goes on.
+ *
+ * A refusal doesn't tell P. To learn it, open the search first with 0 splits
+ * per pair, lending for the product of the counts of pieces: raw is then 10
+ * for each pair, where S splits take S + 1 times as much. At 0 the state's word
+ * 0 is P, which doesn't depend on S. Then lend for P and S, and open again.
  */
 #ifndef LOVGURSHEM_H
 #define LOVGURSHEM_H
@@ -66,7 +89,7 @@ extern "C" {
 #endif
 
 /* Words of a state, and of a report's counts. */
-#define LOVGURSHEM_STATE 11
+#define LOVGURSHEM_STATE 23
 #define LOVGURSHEM_COUNTS 9
 
 /* Bytes of a buffer that every sheet's answer fits. */
@@ -100,13 +123,13 @@ size_t lovgurshem_answer(const uint8_t *sheet, size_t sheet_length,
  * coordinates a pole, and one weight a pole; a count of 0 weights means that
  * every weight is 1.
  *
- * Refused in this order: 19 for fewer than LOVGURSHEM_STATE words; 4 to 14 of
- * the first line, then of the second; 15 to 18; 19 for the pieces. So far
- * nothing is written. Then the pieces' nets are written to pieces1 and
- * pieces2, and 19 is tested for nets, ranges, depths and raw, whose contents
- * it leaves. At 0 the first P slots of nets, ranges and depths are the pairs'
- * and the words are the state's; nothing else in any slice changes. raw is
- * only measured here.
+ * Refused in this order: 4 to 14 of the first line, then of the second; 15 to
+ * 18; 19 for fewer than LOVGURSHEM_STATE words or short pieces. So far nothing
+ * is written. Then the pieces' nets are written to pieces1 and pieces2, and 19
+ * is tested for nets, ranges, depths and raw, whose contents it leaves, as it
+ * leaves the words. At 0 the first P slots of nets, ranges and depths are the
+ * pairs' and the words are the state's; nothing else in any slice changes. raw
+ * is only measured here.
  */
 uint32_t lovgurshem_open(double lo1, double hi1, double lo2, double hi2,
     double gap, uint32_t splits,
@@ -130,20 +153,20 @@ uint32_t lovgurshem_open(double lo1, double hi1, double lo2, double hi2,
     uint64_t *state, size_t state_length);
 
 /*
- * What the clearing tests give for the top node's nets and the gap:
+ * What the clearing tests give for the top node's nets and the state's gap:
  * LOVGURSHEM_SETTLED, _SPLIT or _UNSEPARATED. Refused 19 for words that are no
  * state's, then 20, then 19 for short nets or depths or a state that is no
  * search's. Writes nothing.
  */
 uint32_t lovgurshem_own_verdict(const uint64_t *state, size_t state_length,
-    double gap,
     const double *nets1, size_t nets1_length,
     const double *nets2, size_t nets2_length,
     const uint8_t *depths, size_t depths_length);
 
 /*
  * A step with a verdict for the top node: 1 is Settled, 2 Split, and every
- * other number Unseparated, which lists the node and so loses nothing.
+ * other number of 32 bits Unseparated, which lists the node and so loses
+ * nothing.
  *
  * Settled removes the node. Unseparated, or Split at depth 64, gives it up: its
  * region goes to raw. Split with no allowance left keeps it, and the search
@@ -151,8 +174,7 @@ uint32_t lovgurshem_own_verdict(const uint64_t *state, size_t state_length,
  * only the slots or the region that the step fills have changed. Refused 19
  * for words that are no state's, then 20, then 19; then nothing has changed.
  */
-uint32_t lovgurshem_step(uint8_t verdict, uint64_t *state, size_t state_length,
-    double gap,
+uint32_t lovgurshem_step(uint32_t verdict, uint64_t *state, size_t state_length,
     double *nets1, size_t nets1_length,
     double *nets2, size_t nets2_length,
     double *ranges, size_t ranges_length,
@@ -168,7 +190,6 @@ uint32_t lovgurshem_step(uint8_t verdict, uint64_t *state, size_t state_length,
  * comes to its end.
  */
 uint32_t lovgurshem_run(uint64_t *state, size_t state_length,
-    double gap,
     double *nets1, size_t nets1_length,
     double *nets2, size_t nets2_length,
     double *ranges, size_t ranges_length,
@@ -181,12 +202,11 @@ uint32_t lovgurshem_run(uint64_t *state, size_t state_length,
  * settled, given, left, allowance left, and how many regions; raw has the raw
  * list whole, and report the merged regions, then +0 up to the raw list's
  * length. A region is ten doubles: first lo, hi, second lo, hi, lowest x, y, z,
- * highest x, y, z. Refused 19 for words that are no state's or fewer than
- * LOVGURSHEM_COUNTS counts, then 21, then 19; then nothing has changed. A
+ * highest x, y, z. Refused 19 for words that are no state's, then 21, then 19,
+ * fewer than LOVGURSHEM_COUNTS counts included; then nothing has changed. A
  * second report gives the same.
  */
 uint32_t lovgurshem_report(const uint64_t *state, size_t state_length,
-    double gap,
     const double *nets1, size_t nets1_length,
     const double *nets2, size_t nets2_length,
     const double *ranges, size_t ranges_length,

@@ -50,9 +50,9 @@ static uint32_t open_search(void)
 static uint32_t take_steps(void)
 {
     for (;;) {
-        uint32_t verdict = lovgurshem_own_verdict(SLICE(state), gap, SLICE(nets1), SLICE(nets2), SLICE(depths));
+        uint32_t verdict = lovgurshem_own_verdict(SLICE(state), SLICE(nets1), SLICE(nets2), SLICE(depths));
         if (verdict > LOVGURSHEM_UNSEPARATED) return verdict;
-        uint32_t no = lovgurshem_step((uint8_t)verdict, SLICE(state), gap,
+        uint32_t no = lovgurshem_step(verdict, SLICE(state),
             SLICE(nets1), SLICE(nets2), SLICE(ranges), SLICE(depths), SLICE(raw));
         if (no != 0) return no;
     }
@@ -103,7 +103,7 @@ int main(int argc, char **argv)
     }
     no = take_steps();
     if (no == 20)
-        no = lovgurshem_report(SLICE(state), gap, SLICE(nets1), SLICE(nets2), SLICE(ranges), SLICE(depths),
+        no = lovgurshem_report(SLICE(state), SLICE(nets1), SLICE(nets2), SLICE(ranges), SLICE(depths),
             SLICE(raw), SLICE(report), SLICE(counts));
     if (no != 0) {
         printf("refused %u 0\n", (unsigned)no);

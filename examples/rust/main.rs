@@ -22,18 +22,18 @@ mod sys {
             raw: *const f64, raw_length: usize, state: *mut u64, state_length: usize,
         ) -> u32;
         pub fn lovgurshem_own_verdict(
-            state: *const u64, state_length: usize, gap: f64,
+            state: *const u64, state_length: usize,
             nets1: *const f64, nets1_length: usize, nets2: *const f64, nets2_length: usize,
             depths: *const u8, depths_length: usize,
         ) -> u32;
         pub fn lovgurshem_step(
-            verdict: u8, state: *mut u64, state_length: usize, gap: f64,
+            verdict: u32, state: *mut u64, state_length: usize,
             nets1: *mut f64, nets1_length: usize, nets2: *mut f64, nets2_length: usize,
             ranges: *mut f64, ranges_length: usize, depths: *mut u8, depths_length: usize,
             raw: *mut f64, raw_length: usize,
         ) -> u32;
         pub fn lovgurshem_report(
-            state: *const u64, state_length: usize, gap: f64,
+            state: *const u64, state_length: usize,
             nets1: *const f64, nets1_length: usize, nets2: *const f64, nets2_length: usize,
             ranges: *const f64, ranges_length: usize, depths: *const u8, depths_length: usize,
             raw: *mut f64, raw_length: usize, report: *mut f64, report_length: usize,
@@ -59,10 +59,9 @@ struct Line<'a> {
     weights: &'a [f64],
 }
 
-/// A search: its state, its gap and its memory, which belong together.
+/// A search: its state and its memory, which belong together.
 struct Search {
-    state: [u64; 11],
-    gap: f64,
+    state: [u64; 23],
     nets1: Vec<f64>,
     nets2: Vec<f64>,
     ranges: Vec<f64>,
@@ -81,8 +80,7 @@ impl Search {
         let (pairs, nodes) = (n1 * n2, n1 * n2 + 64);
         let (mut pieces1, mut pieces2) = (vec![0.0; w1 * n1], vec![0.0; w2 * n2]);
         let mut s = Search {
-            state: [0; 11],
-            gap,
+            state: [0; 23],
             nets1: vec![0.0; w1 * nodes],
             nets2: vec![0.0; w2 * nodes],
             ranges: vec![0.0; 4 * nodes],
@@ -106,21 +104,21 @@ impl Search {
     }
 
     /// 1 Settled, 2 Split, 3 Unseparated.
-    fn own_verdict(&self) -> Result<u8, Refused> {
+    fn own_verdict(&self) -> Result<u32, Refused> {
         let n = unsafe {
             sys::lovgurshem_own_verdict(
-                self.state.as_ptr(), self.state.len(), self.gap,
+                self.state.as_ptr(), self.state.len(),
                 self.nets1.as_ptr(), self.nets1.len(), self.nets2.as_ptr(), self.nets2.len(),
                 self.depths.as_ptr(), self.depths.len(),
             )
         };
-        if n <= 3 { Ok(n as u8) } else { Err(n) }
+        if n <= 3 { Ok(n) } else { Err(n) }
     }
 
-    fn step(&mut self, verdict: u8) -> Result<(), Refused> {
+    fn step(&mut self, verdict: u32) -> Result<(), Refused> {
         let no = unsafe {
             sys::lovgurshem_step(
-                verdict, self.state.as_mut_ptr(), self.state.len(), self.gap,
+                verdict, self.state.as_mut_ptr(), self.state.len(),
                 self.nets1.as_mut_ptr(), self.nets1.len(), self.nets2.as_mut_ptr(), self.nets2.len(),
                 self.ranges.as_mut_ptr(), self.ranges.len(), self.depths.as_mut_ptr(), self.depths.len(),
                 self.raw.as_mut_ptr(), self.raw.len(),
@@ -134,7 +132,7 @@ impl Search {
         let (mut counts, mut list) = ([0; 9], vec![0.0; self.raw.len()]);
         let no = unsafe {
             sys::lovgurshem_report(
-                self.state.as_ptr(), self.state.len(), self.gap,
+                self.state.as_ptr(), self.state.len(),
                 self.nets1.as_ptr(), self.nets1.len(), self.nets2.as_ptr(), self.nets2.len(),
                 self.ranges.as_ptr(), self.ranges.len(), self.depths.as_ptr(), self.depths.len(),
                 self.raw.as_mut_ptr(), self.raw.len(), list.as_mut_ptr(), list.len(),

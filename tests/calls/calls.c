@@ -4,14 +4,13 @@
  * and what isn't, are compared.
  *
  *   calls SEED LISTS [LEAST MOST]    LISTS lists of LEAST to MOST calls each
- *   calls --any-width SEED LISTS ..  nets of 0, 1 or over 26 points measured
- *                                    by their points in the model
  *
  * A list begins with openings until one isn't refused. Then come steps with
  * any verdict, own verdicts, runs and reports. A call may be lent too short a
- * start of a slice, too few words of a state, or a word beyond its width; in
- * two lists of three states are forged, and in one of three the memory too. Prints counts of each kind of call by number, and
- * differences; exits 1 if there is one.
+ * start of a slice, too few words of a state or of counts, or a state with any
+ * of its words forged; in two lists of three states are forged that may pass,
+ * and in one of three the memory too. Prints counts of each kind of call by
+ * number, and differences; exits 1 if there is one.
  *
  * Free: the bits of a NaN, and the sign of a zero least or greatest.
  * Left out, as 01 says nothing of it: NaN in ranges (how it sorts).
@@ -108,7 +107,8 @@ static const char *kind_name[] = { "open", "step Settled", "step Split", "step U
                                    "own verdict", "run", "report" };
 static uint64_t counts[KINDS][32], calls, differences, forged_calls, short_calls, forged_passed;
 static uint64_t list_number, call_number, lists_seed;
-static uint64_t halved[2], deep, stopped, merged_regions, raw_regions, wide_halvings, no_points, no_words;
+static uint64_t halved[2], deep, stopped, merged_regions, raw_regions;
+static uint64_t spoiled[STATE_WORDS], spoiled_passed[STATE_WORDS], few_words, few_counts, odd_gaps, wide_verdicts;
 
 static State last; /* the state of the last call */
 
@@ -157,52 +157,82 @@ static void compare_number(int kind, const char *what, uint64_t a, uint64_t b)
     if (a != b) differs(kind, what, (double)a, (double)b);
 }
 
-/* A state's words are lent with some behind them; these and, on a refusal, all
- * stay as they were. */
+/* The words of a state, the library's and the model's, lent with some behind
+ * them. Both begin alike and are compared whole after the call. */
 enum { UNTOUCHED = 0x5A5A, WORDS = LOVGURSHEM_STATE + 3 };
-static uint64_t words[WORDS], words_before[WORDS];
+static uint64_t words[2][WORDS];
 static size_t words_lent;
+static int spoiled_word; /* which one, or -1 */
 
-static void state_words(const State *s, uint64_t *w)
+/* What a word's bits hold at most; a width is 2 to 26, word 11 is a gap, and
+ * words 12 to 22 have no bits. */
+static const uint64_t most[LOVGURSHEM_STATE] = { 0xFFFF, 0xFFFF, 0xFFFFFFFF, UINT64_MAX, 0xFFFFFFFF, 0xFFFFFFFF, 0xFFFFFFFF, 0xFFFFFFFF, 26, 26, 1, UINT64_MAX };
+
+/* Any pattern of a gap: infinite, negative, a zero, a NaN with any sign and
+ * payload, quiet or not. */
+static uint64_t odd_gap(void)
 {
-    uint64_t m[LOVGURSHEM_STATE] = { s->pairs, s->quota, s->waiting, s->visits, s->splits, s->unspent,
-                                     s->settled, s->given, s->width[0], s->width[1], (uint64_t)s->stopped };
-    memcpy(w, m, sizeof m);
+    uint64_t sign = (uint64_t)one_in(2) << 63;
+    switch (below(5)) {
+    case 0: return bits_of(odd());
+    case 1: return sign | 0x7FF0000000000000 | (one_in(2) ? 1 : chance() >> 12);
+    case 2: return sign | bits_of(fabs(coarse()));
+    case 3: return sign | 0x7FF0000000000000;
+    default: return chance();
+    }
 }
 
-/* The words that a call gets. Some calls get too few, or a word beyond its
- * width: then the answer is 19 (answers whether it is). */
-static int hand_words(const State *s)
+static uint64_t odd_word(int i, uint64_t word)
 {
-    static const uint64_t most[LOVGURSHEM_STATE] = { 0xFFFF, 0xFFFF, 0xFFFFFFFF, 0, 0xFFFFFFFF, 0xFFFFFFFF, 0xFFFFFFFF, 0xFFFFFFFF, 0xFF, 0xFF, 1 };
-    int bad = 0;
-    for (int i = 0; i < WORDS; i++) words[i] = UNTOUCHED;
-    if (s) state_words(s, words);
+    static const uint64_t widths[] = { 0, 1, 2, 26, 27, 28, 255, 256, 258, 282 };
+    if (i == 11) return odd_gap();
+    if ((i == 8 || i == 9) && !one_in(4)) return widths[below(10)];
+    switch (below(7)) {
+    case 0: return most[i];
+    case 1: case 2: return most[i] + 1;
+    case 3: return UINT64_MAX - (one_in(2) ? 0 : below(9));
+    case 4: return (uint64_t)1 << below(64);
+    case 5: return word + ((most[i] + 1) << below(16));
+    default: return chance();
+    }
+}
+
+/* The words that a call gets: the state's, or for an opening any. Some calls
+ * get too few, or one word of any other value. */
+static void hand_words(const State *s)
+{
+    uint64_t *w = words[0];
+    for (int i = 0; i < WORDS; i++) w[i] = UNTOUCHED;
+    if (s) write_words(s, w);
     words_lent = one_in(3) ? LOVGURSHEM_STATE : WORDS;
+    spoiled_word = -1;
     if (one_in(30)) {
-        words_lent = below(LOVGURSHEM_STATE);
-        bad = 1;
+        words_lent = one_in(2) ? LOVGURSHEM_STATE - 1 : below(LOVGURSHEM_STATE);
+        few_words++;
+    } else if (s && one_in(12)) {
+        spoiled_word = (int)below(LOVGURSHEM_STATE);
+        w[spoiled_word] = odd_word(spoiled_word, w[spoiled_word]);
+        spoiled[spoiled_word]++;
     }
-    if (s && one_in(30)) {
-        uint64_t i = below(LOVGURSHEM_STATE);
-        if (i != 3) {
-            words[i] = one_in(2) ? most[i] + 1 : one_in(2) ? UINT64_MAX - below(9) : words[i] + ((most[i] + 1) << below(16));
-            if (words[i] <= most[i]) words[i] = most[i] + 1;
-            bad = 1;
-        }
-    }
-    memcpy(words_before, words, sizeof words);
-    no_words += (uint64_t)bad;
-    return bad;
+    memcpy(words[1], words[0], sizeof words[0]);
 }
 
-/* The words are the state's, or with no state as they were. */
-static void compare_words(int kind, const State *s)
+static void compare_words(int kind, int refused)
 {
-    static const char *name[] = { "pairs", "quota", "waiting", "visits", "splits", "unspent",
-                                  "settled", "given", "width1", "width2", "stopped", "word behind", "word behind", "word behind" };
-    if (s) state_words(s, words_before);
-    for (int i = 0; i < WORDS; i++) compare_number(kind, name[i], words[i], words_before[i]);
+    for (int i = 0; i < WORDS; i++)
+        if (words[0][i] != words[1][i]) {
+            char what[32];
+            snprintf(what, sizeof what, "word %d", i);
+            differs(kind, what, (double)words[0][i], (double)words[1][i]);
+        }
+    if (spoiled_word >= 0) spoiled_passed[spoiled_word] += !refused;
+}
+
+/* The state after a call that wasn't refused; a gap word that was forged for
+ * the call is kept by it. */
+static void next_state(State *s)
+{
+    if (!read_words(words[1], WORDS, s)) differs(RUN, "the words are no state's", 0, 0);
 }
 
 static void count(int kind, int number)
@@ -241,105 +271,102 @@ static void choose_lent(const State *s)
 
 /* ---- calls ------------------------------------------------------------- */
 
+/* A number for the verdict; Unseparated is any other of 32 bits. */
+static uint32_t number_of(Verdict v)
+{
+    static const uint32_t others[] = { 0, 3, 4, 255, 256, 257, 258, 513, 514, 65537, 65538, 0x01000001, 0x80000001, 0x80000002, UINT32_MAX };
+    uint32_t n = v == SETTLED ? 1 : v == SPLIT ? 2 : 3;
+    if (v == UNSEPARATED && one_in(3)) n = one_in(8) ? (uint32_t)chance() | 4 : others[below(sizeof others / sizeof *others)];
+    wide_verdicts += n > 255;
+    return n;
+}
+
 static void do_step(State *s, Verdict v)
 {
-    int kind = SETTLE + (int)v, no, was_top, bad;
+    int kind = SETTLE + (int)v, no, was_top;
     State old = *s;
     Lent *a = &lent[0], *b = &lent[1];
     choose_lent(s);
-    bad = hand_words(s);
+    hand_words(s);
     was_top = s->waiting > 0 && s->waiting <= depth_cap ? model.depths[s->waiting - 1] : 0;
-    uint8_t handed = (uint8_t)(v + 1);
-    if (v == UNSEPARATED && one_in(4)) handed = one_in(8) ? 0 : (uint8_t)(3 + below(253));
-    uint32_t got = lovgurshem_step(handed, words, words_lent, s->gap,
+    uint32_t handed = number_of(v);
+    uint32_t got = lovgurshem_step(handed, words[0], words_lent,
         PART(a->nets[0]), PART(a->nets[1]), PART(a->ranges), PART(a->depths), PART(a->raw));
-    no = bad ? 19 : call_step(s, v, b);
+    no = call_step(handed, words[1], words_lent, b);
     compare_number(kind, "answer", got, (uint64_t)no);
-    compare_words(kind, no == 0 ? s : NULL);
+    compare_words(kind, no);
     if (no == 0) {
+        next_state(s);
         if (s->splits > old.splits) {
             size_t top = 4 * (size_t)(old.waiting - 1);
             double *r = model.f[RANGES] + top;
             halved[memcmp(r, r + 4, 2 * sizeof *r) == 0]++;
-            wide_halvings += s->width[0] > 26 || s->width[1] > 26;
         }
         deep += v == SPLIT && was_top == 64;
         stopped += s->stopped && !old.stopped;
-        no_points += s->width[0] == 0 || s->width[1] == 0;
     }
     count(kind, no);
     compare_worlds(kind, 0);
 }
 
-/* A net of no points has no chord. */
-static int untold(const State *s)
-{
-    return any_width && (s->width[0] == 0 || s->width[1] == 0) && !isfinite(s->gap);
-}
-
 static void do_own(const State *s)
 {
-    Verdict v = SETTLED;
-    int no, bad;
+    int no;
     Lent *a = &lent[0];
-    if (untold(s)) return;
     choose_lent(s);
-    bad = hand_words(s);
-    uint32_t got = lovgurshem_own_verdict(words, words_lent, s->gap, PART(a->nets[0]), PART(a->nets[1]), PART(a->depths));
-    no = bad ? 19 : call_own_verdict(s, &lent[1], &v);
-    compare_number(OWN, "answer", got, no ? (uint64_t)no : (uint64_t)v + 1);
-    compare_words(OWN, NULL);
-    count(OWN, no ? no : (int)v + 1);
+    hand_words(s);
+    uint32_t got = lovgurshem_own_verdict(words[0], words_lent, PART(a->nets[0]), PART(a->nets[1]), PART(a->depths));
+    no = call_own_verdict(words[1], words_lent, &lent[1]);
+    compare_number(OWN, "answer", got, (uint64_t)no);
+    compare_words(OWN, no > 3);
+    odd_gaps += no <= 3 && !(float_of(words[1][11]) >= 0.0 && float_of(words[1][11]) <= 0x1p24);
+    count(OWN, no);
     compare_worlds(OWN, 0);
 }
 
 static void do_run(State *s)
 {
-    int no, bad;
-    State next = *s;
+    int no;
     Lent *a = &lent[0];
-    if (untold(s)) return;
     choose_lent(s);
-    bad = hand_words(s);
-    uint32_t got = lovgurshem_run(words, words_lent, s->gap, PART(a->nets[0]), PART(a->nets[1]), PART(a->ranges),
+    hand_words(s);
+    uint32_t got = lovgurshem_run(words[0], words_lent, PART(a->nets[0]), PART(a->nets[1]), PART(a->ranges),
         PART(a->depths), PART(a->raw));
-    no = bad ? 19 : call_run(&next, &lent[1]);
+    no = call_run(words[1], words_lent, &lent[1]);
     compare_number(RUN, "answer", got, (uint64_t)no);
-    compare_words(RUN, no == 0 ? &next : NULL);
-    if (no == 0) *s = next;
+    compare_words(RUN, no);
+    if (no == 0) next_state(s);
     count(RUN, no);
     compare_worlds(RUN, 0);
 }
 
 static void do_report(const State *s)
 {
-    uint64_t told[LOVGURSHEM_COUNTS + 1], m[LOVGURSHEM_COUNTS + 1];
+    static const char *name[] = { "counts 0", "counts 1", "counts 2", "counts 3", "counts 4", "counts 5", "counts 6", "counts 7", "counts 8", "counts behind" };
+    uint64_t told[2][LOVGURSHEM_COUNTS + 1], merged = 0;
     size_t told_lent = LOVGURSHEM_COUNTS + below(2);
-    Told t = { 0, 0 };
-    int no, bad;
+    int no;
     Lent *a = &lent[0];
     choose_lent(s);
-    bad = hand_words(s);
-    if (one_in(30)) {
-        told_lent = below(LOVGURSHEM_COUNTS);
-        bad = 1;
+    hand_words(s);
+    if (one_in(20)) {
+        told_lent = one_in(2) ? LOVGURSHEM_COUNTS - 1 : below(LOVGURSHEM_COUNTS);
+        few_counts++;
     }
-    for (int i = 0; i <= LOVGURSHEM_COUNTS; i++) told[i] = m[i] = UNTOUCHED;
-    uint32_t got = lovgurshem_report(words, words_lent, s->gap, PART(a->nets[0]), PART(a->nets[1]), PART(a->ranges),
-        PART(a->depths), PART(a->raw), PART(a->report), told, told_lent);
-    no = bad ? 19 : call_report(s, &lent[1], &t);
+    for (int i = 0; i <= LOVGURSHEM_COUNTS; i++) told[0][i] = told[1][i] = UNTOUCHED;
+    uint32_t got = lovgurshem_report(words[0], words_lent, PART(a->nets[0]), PART(a->nets[1]), PART(a->ranges),
+        PART(a->depths), PART(a->raw), PART(a->report), told[0], told_lent);
+    no = call_report(words[1], words_lent, &lent[1], told[1], told_lent);
     compare_number(TELL, "answer", got, (uint64_t)no);
-    compare_words(TELL, NULL);
+    compare_words(TELL, no);
+    for (int i = 0; i <= LOVGURSHEM_COUNTS; i++) compare_number(TELL, name[i], told[0][i], told[1][i]);
     if (no == 0) {
-        uint64_t now[LOVGURSHEM_COUNTS] = { (uint64_t)t.word, s->pairs, s->visits, s->splits, s->settled, s->given, s->waiting, s->unspent, t.regions };
-        memcpy(m, now, sizeof now);
-        merged_regions += t.regions;
-        raw_regions += (uint64_t)s->given + s->waiting;
+        merged = told[1][8];
+        merged_regions += merged;
+        raw_regions += told[1][5] + told[1][6];
     }
-    static const char *name[] = { "word", "pairs", "visits", "splits", "settled", "given", "left", "unspent", "regions", "count behind" };
-    for (int i = 0; i <= LOVGURSHEM_COUNTS; i++) compare_number(TELL, name[i], told[i], m[i]);
     count(TELL, no);
-    compare_worlds(TELL, t.regions);
+    compare_worlds(TELL, merged);
     /* zeros of free sign stay free in the report slice afterwards */
     if (no == 0) memcpy(lib.f[REPORT], model.f[REPORT], (cap[REPORT] + GUARD) * sizeof(double));
 }
@@ -443,16 +470,17 @@ static int do_open(State *s, int spoil)
     }
     lent[0] = lend(&lib, n, n[SLICES]);
     lent[1] = lend(&model, n, n[SLICES]);
-    int bad = hand_words(NULL);
+    hand_words(NULL);
     Lent *a = &lent[0];
 #define LINE(g) (g).degree, (g).knots, (g).knot_count, (g).mults, (g).mult_count, (g).coords, (g).coord_count, (g).weights, (g).weight_count
     uint32_t got = lovgurshem_open(range[0][0], range[0][1], range[1][0], range[1][1], gap, splits,
         LINE(d[0].given), LINE(d[1].given), PART(a->pieces[0]), PART(a->pieces[1]), PART(a->nets[0]), PART(a->nets[1]),
-        PART(a->ranges), PART(a->depths), PART(a->raw), words, words_lent);
+        PART(a->ranges), PART(a->depths), PART(a->raw), words[0], words_lent);
     Given both[2] = { d[0].given, d[1].given };
-    int no = bad ? 19 : call_open(both, (const double (*)[2])range, gap, splits, &lent[1], s);
+    int no = call_open(both, (const double (*)[2])range, gap, splits, &lent[1], words[1], words_lent);
     compare_number(OPEN, "answer", got, (uint64_t)no);
-    compare_words(OPEN, no == 0 ? s : NULL);
+    compare_words(OPEN, no);
+    if (no == 0) next_state(s);
     count(OPEN, no & 255);
     compare_worlds(OPEN, 0);
     return no;
@@ -485,7 +513,7 @@ static void bend(State *s)
     case 7: s->given = (uint32_t)bent(s->given, UINT32_MAX); break;
     case 8: s->width[0] = one_in(3) ? (uint8_t)bent(s->width[0], 255) : widths[below(6)]; break;
     case 9: s->width[1] = one_in(3) ? (uint8_t)bent(s->width[1], 255) : widths[below(6)]; break;
-    case 10: s->gap = one_in(2) ? odd() : -1.0; break;
+    case 10: s->gap = float_of(odd_gap()); break;
     case 11: /* sums that are right in 32 bits only */
         s->settled += 0x80000000;
         s->given += 0x80000000;
@@ -518,10 +546,10 @@ static void invent(State *s)
     s->settled = (uint32_t)(of - s->waiting - s->given);
     s->visits = one_in(2) ? (uint64_t)s->splits + s->settled + s->given + one_in(2) : below(of + 2);
     s->stopped = one_in(4);
-    if (one_in(3)) s->width[below(2)] = (uint8_t)(one_in(3) ? below(256) : below(30));
+    if (one_in(3)) s->width[below(2)] = (uint8_t)(one_in(8) ? below(256) : 2 + below(25));
     for (int i = 0; i < 2; i++)
-        while ((s->pairs + 64u) * 4 * s->width[i] > cap[NETS1 + i] && !one_in(20)) s->width[i] /= 2;
-    if (one_in(6)) s->gap = odd();
+        while (s->width[i] > 3 && (s->pairs + 64u) * 4 * s->width[i] > cap[NETS1 + i] && !one_in(20)) s->width[i] /= 2;
+    if (one_in(6)) s->gap = float_of(odd_gap());
     if (s->waiting > 0) {
         size_t top = s->waiting - 1;
         uint8_t least_depth = s->waiting > s->pairs ? (uint8_t)(s->waiting - s->pairs) : 0;
@@ -548,6 +576,15 @@ static void forge_memory(const State *s)
 
 /* ---- a list ------------------------------------------------------------ */
 
+/* Whether the state's words are a state's: forged widths may not be. */
+static int readable(const State *s)
+{
+    uint64_t w[STATE_WORDS];
+    State t;
+    write_words(s, w);
+    return read_words(w, STATE_WORDS, &t);
+}
+
 static void one_call(State *s, int bias)
 {
     uint64_t r = below(100);
@@ -562,7 +599,7 @@ static void one_call(State *s, int bias)
         size_t n[SLICES];
         memcpy(n, cap, sizeof n);
         m = lend(&model, n, depth_cap);
-        if (!untold(s)) call_own_verdict(s, &m, &v);
+        if (readable(s)) own_verdict(s, &m, &v);
         do_step(s, v);
     }
 }
@@ -580,12 +617,12 @@ static void open_until(State *s, int n)
 
 static void one_list(uint64_t least_calls, uint64_t most_calls)
 {
-    int forging = !one_in(3), wild = one_in(3), wide = one_in(12), big = one_in(30), bias = (int)below(3);
+    int forging = !one_in(3), wild = one_in(3), big = one_in(30), bias = (int)below(3);
     uint64_t n = least_calls + below(most_calls - least_calls + 1);
     State s = { 0 }, kept;
     spans = big ? 129 : one_in(2) ? 2 : 5;
     cap[PIECES1] = cap[PIECES2] = big ? 16000 : 700;
-    cap[NETS1] = cap[NETS2] = big || wide ? 104 * 4 * 255 : one_in(3) ? 104 * 4 * 27 : 104 * 4 * 6;
+    cap[NETS1] = cap[NETS2] = big ? 104 * 4 * 255 : one_in(3) ? 104 * 4 * 27 : 104 * 4 * 6;
     cap[RANGES] = 4 * (depth_cap = big ? 4000 : 104);
     cap[RAW] = cap[REPORT] = big ? 60000 : one_in(3) ? 16000 : 6000;
     fill_worlds(wild && forging);
@@ -607,7 +644,7 @@ static void one_list(uint64_t least_calls, uint64_t most_calls)
             forged_calls++;
             one_call(&f, 2);
             forged_passed += counts[SETTLE][0] + counts[HALVE][0] + counts[GIVE][0] + counts[TELL][0] > before;
-            if (one_in(invented ? 2 : 20)) s = f;
+            if (one_in(invented ? 2 : 20) && readable(&f)) s = f;
             continue;
         }
         if (one_in(20)) kept = s;
@@ -624,13 +661,8 @@ static void one_list(uint64_t least_calls, uint64_t most_calls)
 int main(int argc, char **argv)
 {
     uint64_t lists, least_calls = 50, most_calls = 300;
-    if (argc > 1 && strcmp(argv[1], "--any-width") == 0) {
-        any_width = 1;
-        argv++;
-        argc--;
-    }
     if (argc != 3 && argc != 5) {
-        fprintf(stderr, "usage: calls [--any-width] SEED LISTS [LEAST MOST]\n");
+        fprintf(stderr, "usage: calls SEED LISTS [LEAST MOST]\n");
         return 2;
     }
     lists_seed = strtoull(argv[1], NULL, 10);
@@ -644,17 +676,19 @@ int main(int argc, char **argv)
         chance_state = lists_seed * 0x9E3779B97F4A7C15 + list_number * 0xD1B54A32D192ED03;
         one_list(least_calls, most_calls);
     }
-    printf("lists %lu, calls %lu, with a forged state %lu (%lu of them a step or report that wasn't refused), with a slice cut short %lu, with words that are no state's %lu\n",
-           (unsigned long)lists, (unsigned long)calls, (unsigned long)forged_calls, (unsigned long)forged_passed, (unsigned long)short_calls, (unsigned long)no_words);
+    printf("lists %lu, calls %lu, with a forged state %lu (%lu of them a step or report that wasn't refused), with a slice cut short %lu, with too few words %lu, too few counts %lu\n",
+           (unsigned long)lists, (unsigned long)calls, (unsigned long)forged_calls, (unsigned long)forged_passed, (unsigned long)short_calls, (unsigned long)few_words, (unsigned long)few_counts);
+    printf("one word forged, and of these not refused:");
+    for (int i = 0; i < LOVGURSHEM_STATE; i++) printf(" %d=%lu/%lu", i, (unsigned long)spoiled[i], (unsigned long)spoiled_passed[i]);
+    printf("\nown verdicts with a gap that isn't 0 to 2^24: %lu; verdicts over 255: %lu\n", (unsigned long)odd_gaps, (unsigned long)wide_verdicts);
     for (int k = 0; k < KINDS; k++) {
         printf("%s:", kind_name[k]);
         for (int i = 0; i < 32; i++)
             if (counts[k][i]) printf(" %d=%lu", i, (unsigned long)counts[k][i]);
         printf("\n");
     }
-    printf("halved first %lu, second %lu, nets over 26 points %lu; no points %lu; given up at depth 64 %lu; stopped %lu; regions raw %lu, merged %lu\n",
-           (unsigned long)halved[0], (unsigned long)halved[1], (unsigned long)wide_halvings, (unsigned long)no_points, (unsigned long)deep,
-           (unsigned long)stopped, (unsigned long)raw_regions, (unsigned long)merged_regions);
+    printf("halved first %lu, second %lu; given up at depth 64 %lu; stopped %lu; regions raw %lu, merged %lu\n",
+           (unsigned long)halved[0], (unsigned long)halved[1], (unsigned long)deep, (unsigned long)stopped, (unsigned long)raw_regions, (unsigned long)merged_regions);
     printf("differences %lu\n", (unsigned long)differences);
     return differences != 0;
 }

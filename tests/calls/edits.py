@@ -32,7 +32,7 @@ EDITS = [
     ('visits one more', 'return s->visits <= splits + settled + given + 1;', 'return s->visits <= splits + settled + given + 2;'),
     ('state not tested in a step', 'if (!slices_fit(s, m) || !is_search(s, m)) return 19;\n    if (v == SETTLED)', 'if (!slices_fit(s, m)) return 19;\n    if (v == SETTLED)'),
     ('19 before 20', '    if (has_ended(s)) return 20;\n    if (!slices_fit(s, m) || !is_search(s, m)) return 19;\n', '    if (!slices_fit(s, m) || !is_search(s, m)) return 19;\n    if (has_ended(s)) return 20;\n'),
-    ('19 before 21', '    if (!has_ended(s)) return 21;\n    if (!slices_fit(s, m)', '    if (!slices_fit(s, m)) return 19;\n    if (!has_ended(s)) return 21;\n    if (!slices_fit(s, m)'),
+    ('19 before 21', '    if (!has_ended(&s)) return 21;\n    if (length', '    if (!slices_fit(&s, m)) return 19;\n    if (!has_ended(&s)) return 21;\n    if (length'),
     ('own verdict with ranges and raw', 'if (!nets_fit(s, m) || !is_search(s, m)) return 19;', 'if (!slices_fit(s, m) || !is_search(s, m)) return 19;'),
     ('own verdict without the state', 'if (!nets_fit(s, m) || !is_search(s, m)) return 19;', 'if (!nets_fit(s, m) || s->waiting > s->pairs + 64u) return 19;'),
     ('Split at depth 64 halves', 'm->depths.at[top] == 64', 'm->depths.at[top] == 65'),
@@ -55,9 +55,49 @@ EDITS = [
     ('pieces not kept at 19', '    if (!slices_fit(&first, m)) return 19;\n', '    if (!slices_fit(&first, m)) {\n        m->pieces[0].at[0] = 9.0;\n        return 19;\n    }\n'),
     ('depth of a pushed pair', '            m->depths.at[k] = 0;\n', ''),
     ('allowance of S', 'first.unspent = (uint32_t)(splits * pairs);', 'first.unspent = splits;'),
-    ('widths without limit', 'if (any_width || ', 'if (1 || '),
-    ('width 27', 's->width[i] <= MAX_WIDTH)) continue;', 's->width[i] <= MAX_WIDTH + 1)) continue;'),
-    ('width 1', '(s->width[i] >= 2 &&', '(s->width[i] >= 1 &&'),
+    ('22 words enough', 'enum { STATE_WORDS = 23,', 'enum { STATE_WORDS = 22,'),
+    ('words that are no state\'s after 20', 'if (!read_words(w, n, &s)) return 19;\n    no = step(', 'if (n >= 3 && w[2] == 0) return 20;\n    if (!read_words(w, n, &s)) return 19;\n    no = step('),
+    ('pairs of 17 bits', 'w[0] > 0xFFFF ||', 'w[0] > 0x10000 ||'),
+    ('splits per pair of 17 bits', 'w[1] > 0xFFFF)', 'w[1] > 0x10000)'),
+    ('waiting cut to 32 bits', '    if (w[2] > 0xFFFFFFFF) return 0;\n', ''),
+    ('visits of 63 bits', '    if (w[4] > 0xFFFFFFFF) return 0;\n', '    if (w[4] > 0xFFFFFFFF || w[3] >> 63) return 0;\n'),
+    ('splits cut to 32 bits', '    if (w[4] > 0xFFFFFFFF) return 0;\n', ''),
+    ('allowance cut to 32 bits', '    if (w[5] > 0xFFFFFFFF) return 0;\n', ''),
+    ('settled cut to 32 bits', '    if (w[6] > 0xFFFFFFFF) return 0;\n', ''),
+    ('given cut to 32 bits', '    if (w[7] > 0xFFFFFFFF) return 0;\n', ''),
+    ('any width', 'if (w[8 + i] < 2 || w[8 + i] > MAX_WIDTH) return 0;', 'if (w[8 + i] > 255) return 0;'),
+    ('width 1', 'w[8 + i] < 2 ||', 'w[8 + i] < 1 ||'),
+    ('width 27', 'w[8 + i] > MAX_WIDTH)', 'w[8 + i] > MAX_WIDTH + 1)'),
+    ('width of the first line only', 'for (int i = 0; i < 2; i++)\n        if (w[8 + i]', 'for (int i = 0; i < 1; i++)\n        if (w[8 + i]'),
+    ('stopped by any number', '    if (w[10] > 1) return 0;\n', ''),
+    ('stopped 2', 'w[10] > 1)', 'w[10] > 2)'),
+    ('words without bits not tested', 'if (w[i] != 0) return 0;', ';'),
+    ('word 12 not tested', '    for (int i = 12; i < STATE_WORDS; i++)\n        if', '    for (int i = 13; i < STATE_WORDS; i++)\n        if'),
+    ('word 22 not tested', '    for (int i = 12; i < STATE_WORDS; i++)\n        if', '    for (int i = 12; i < STATE_WORDS - 1; i++)\n        if'),
+    ('a NaN gap refused', '    if (w[10] > 1) return 0;\n', '    if (w[10] > 1 || isnan(float_of(w[11]))) return 0;\n'),
+    ('a negative gap refused', '    if (w[10] > 1) return 0;\n', '    if (w[10] > 1 || w[11] >> 63) return 0;\n'),
+    ('an infinite gap refused', '    if (w[10] > 1) return 0;\n', '    if (w[10] > 1 || isinf(float_of(w[11]))) return 0;\n'),
+    ('gap without its sign', 'float_of(w[11]), (int)w[10] };', 'fabs(float_of(w[11])), (int)w[10] };'),
+    ('gap from another word', 'float_of(w[11]), (int)w[10] };', 'float_of(w[12]), (int)w[10] };'),
+    ('a step writes the gap', '    w[10] = (uint64_t)s->stopped;\n', '    w[10] = (uint64_t)s->stopped;\n    w[11] = bits_of(s->gap + 0.0);\n'),
+    ('a step loses the gap', '    w[10] = (uint64_t)s->stopped;\n', '    w[10] = (uint64_t)s->stopped;\n    w[11] = 0;\n'),
+    ('stopped not written', '    w[10] = (uint64_t)s->stopped;\n', ''),
+    ('visits not written', '    w[3] = s->visits;\n', ''),
+    ('gap not written by the opening', '    w[11] = bits_of(s->gap);\n', ''),
+    ('words without bits not written by the opening', '    for (int i = 12; i < STATE_WORDS; i++) w[i] = 0;\n', ''),
+    ('a word behind the last written', 'i < STATE_WORDS; i++) w[i] = 0;', 'i < STATE_WORDS + 1; i++) w[i] = 0;'),
+    ('19 of the words before 4', '    for (int i = 0; i < 2; i++) {\n        fault = take_given', '    if (n < STATE_WORDS) return 19;\n    for (int i = 0; i < 2; i++) {\n        fault = take_given'),
+    ('19 of the words before 15', '    if (r.number) return r.number + 256 * r.line;\n    if (n < STATE_WORDS) return 19;\n', '    if (n < STATE_WORDS) return 19;\n    if (r.number) return r.number + 256 * r.line;\n'),
+    ('19 of the words after the pieces are written', '    if (n < STATE_WORDS) return 19;\n    for', '    for', '    if (!slices_fit(&first, m)) return 19;\n', '    if (n < STATE_WORDS || !slices_fit(&first, m)) return 19;\n'),
+    ('words written at 19', '    if (!slices_fit(&first, m)) return 19;\n', '    write_words(&first, w);\n    if (!slices_fit(&first, m)) return 19;\n'),
+    ('eight counts enough', 'COUNT_WORDS = 9 }', 'COUNT_WORDS = 8 }', 's.unspent, t.regions };', 's.unspent };'),
+    ('19 of the counts before 21', '    if (!has_ended(&s)) return 21;\n    if (length < COUNT_WORDS) return 19;\n', '    if (length < COUNT_WORDS) return 19;\n    if (!has_ended(&s)) return 21;\n'),
+    ('19 of the counts before the words', '    if (!read_words(w, n, &s)) return 19;\n    if (!has_ended(&s)) return 21;\n', '    if (n >= 3 && w[2] != 0 && w[10] == 0) return 21;\n    if (!read_words(w, n, &s)) return 19;\n    if (!has_ended(&s)) return 21;\n'),
+    ('raw list written at 19 of the counts', '    if (length < COUNT_WORDS) return 19;\n    no = report(&s, m, &t);\n', '    no = report(&s, m, &t);\n    if (no == 0 && length < COUNT_WORDS) return 19;\n'),
+    ('verdict cut to 8 bits', 'static Verdict verdict_of(uint32_t n)', 'static Verdict verdict_of(uint8_t n)'),
+    ('verdict cut to 16 bits', 'static Verdict verdict_of(uint32_t n)', 'static Verdict verdict_of(uint16_t n)'),
+    ('verdict 0 settles', 'return n == 1 ? SETTLED', 'return n <= 1 ? SETTLED'),
+    ('verdict 3 and above split', 'n == 2 ? SPLIT : UNSEPARATED;\n}', 'n == 2 || n > 3 ? SPLIT : UNSEPARATED;\n}'),
 ]
 
 
@@ -71,10 +111,13 @@ def main():
             (top / part).mkdir()
         (top / 'model/clearance.c').write_text((ROOT / 'tests/model/clearance.c').read_text())
         (top / 'calls/calls.c').write_text((ROOT / 'tests/calls/calls.c').read_text())
-        for name, old, new in EDITS:
-            if text.count(old) != 1:
-                sys.exit(f'{name}: the old text occurs {text.count(old)} times')
-            (top / 'model/calls.c').write_text(text.replace(old, new))
+        for name, *pairs in EDITS:
+            changed = text
+            for old, new in zip(pairs[::2], pairs[1::2]):
+                if changed.count(old) != 1:
+                    sys.exit(f'{name}: the old text occurs {changed.count(old)} times')
+                changed = changed.replace(old, new)
+            (top / 'model/calls.c').write_text(changed)
             subprocess.run(['cc', '-O2', '-std=c99', '-w', '-ffp-contract=off', '-I', ROOT / 'include', '-o', top / 'run', top / 'calls/calls.c',
                             ROOT / 'target/staticlib/liblovgurshem.a', '-lm'], check=True)
             out = subprocess.run([top / 'run', seed, lists], stdout=subprocess.PIPE, text=True).returncode

@@ -4,9 +4,9 @@
  * under it, Search, Merging. The parts of a sheet's answer (admission, breaks,
  * pieces, boxes, tests, halving, merging) are clearance.c's.
  *
- * A state's width may be any byte, so its nets may have up to 255 points.
+ * A state travels as words of 64 bits; what they are is the header's table
+ * (include/lovgurshem.h, STATE).
  */
-#define NET_POINTS 256
 #define main sheet_main
 #define step sheet_step
 #define report sheet_report
@@ -47,6 +47,70 @@ typedef struct {
     const double *knots, *coords, *weights;
     const uint32_t *mults;
 } Given;
+
+/* ---- a state as words -------------------------------------------------- */
+
+enum { STATE_WORDS = 23, COUNT_WORDS = 9 };
+
+static double float_of(uint64_t bits)
+{
+    double x;
+    memcpy(&x, &bits, sizeof x);
+    return x;
+}
+
+static uint64_t bits_of(double x)
+{
+    uint64_t bits;
+    memcpy(&bits, &x, sizeof bits);
+    return bits;
+}
+
+/* Whether the words are a state's, each within its bits; the state they are. */
+static int read_words(const uint64_t *w, size_t n, State *s)
+{
+    if (n < STATE_WORDS) return 0;
+    if (w[0] > 0xFFFF || w[1] > 0xFFFF) return 0;
+    if (w[2] > 0xFFFFFFFF) return 0;
+    if (w[4] > 0xFFFFFFFF) return 0;
+    if (w[5] > 0xFFFFFFFF) return 0;
+    if (w[6] > 0xFFFFFFFF) return 0;
+    if (w[7] > 0xFFFFFFFF) return 0;
+    for (int i = 0; i < 2; i++)
+        if (w[8 + i] < 2 || w[8 + i] > MAX_WIDTH) return 0;
+    if (w[10] > 1) return 0;
+    for (int i = 12; i < STATE_WORDS; i++)
+        if (w[i] != 0) return 0;
+    *s = (State){ (uint16_t)w[0], (uint16_t)w[1], (uint32_t)w[2], w[3], (uint32_t)w[4], (uint32_t)w[5], (uint32_t)w[6],
+                  (uint32_t)w[7], { (uint8_t)w[8], (uint8_t)w[9] }, float_of(w[11]), (int)w[10] };
+    return 1;
+}
+
+/* The words that a step moves. */
+static void move_words(const State *s, uint64_t *w)
+{
+    w[2] = s->waiting;
+    w[3] = s->visits;
+    w[4] = s->splits;
+    w[5] = s->unspent;
+    w[6] = s->settled;
+    w[7] = s->given;
+    w[10] = (uint64_t)s->stopped;
+}
+
+/* All words, as the opening writes them: those without bits are 0. */
+static void write_words(const State *s, uint64_t *w)
+{
+    w[0] = s->pairs;
+    w[1] = s->quota;
+    move_words(s, w);
+    w[8] = s->width[0];
+    w[9] = s->width[1];
+    w[11] = bits_of(s->gap);
+    for (int i = 12; i < STATE_WORDS; i++) w[i] = 0;
+}
+
+/* ---- the operations on a state ----------------------------------------- */
 
 /* 01, the paragraph under the table: "The search has ended". */
 static int has_ended(const State *s)
@@ -94,19 +158,9 @@ static double *slot(const State *s, const Lent *m, int line, uint32_t k)
     return m->nets[line].at + (size_t)k * 4 * s->width[line];
 }
 
-/* 01 has nets of 2 to 26 points. A state may name another width, and 01's
- * five tests don't look at it: such a net counts as out of measure. With
- * `any_width` it is measured by its points as any other (none: in measure). */
-static int any_width;
-
 static void node_hulls(const State *s, const Lent *m, uint32_t k, Hull h[2])
 {
-    for (int i = 0; i < 2; i++) {
-        fill_hull(slot(s, m, i, k), s->width[i], &h[i]);
-        if (any_width || (s->width[i] >= 2 && s->width[i] <= MAX_WIDTH)) continue;
-        h[i].measured = 0;
-        fill_box(&h[i]);
-    }
+    for (int i = 0; i < 2; i++) fill_hull(slot(s, m, i, k), s->width[i], &h[i]);
 }
 
 /* 01, Search and Merging: a region has the node's ranges, and the box of both
@@ -128,7 +182,7 @@ static void halve_node(const State *s, const Lent *m, uint32_t k, int i)
     size_t w = 4 * (size_t)s->width[i], o = 4 * (size_t)s->width[1 - i];
     double *range = m->ranges.at + 4 * (size_t)k;
     double mid = middle(range[2 * i], range[2 * i + 1]);
-    double net[4 * NET_POINTS];
+    double net[4 * MAX_WIDTH];
     memcpy(net, slot(s, m, i, k), w * sizeof *net);
     halve_net(net, s->width[i], slot(s, m, i, k) + w, slot(s, m, i, k));
     memcpy(slot(s, m, 1 - i, k) + o, slot(s, m, 1 - i, k), o * sizeof *net);
@@ -139,7 +193,7 @@ static void halve_node(const State *s, const Lent *m, uint32_t k, int i)
 }
 
 /* A step with a verdict for the top node: 20, 19, or 0 and the next state. */
-static int call_step(State *s, Verdict v, const Lent *m)
+static int step(State *s, Verdict v, const Lent *m)
 {
     Hull h[2];
     uint32_t top = s->waiting - 1;
@@ -166,7 +220,7 @@ static int call_step(State *s, Verdict v, const Lent *m)
 }
 
 /* The own verdict: 20, 19 (for nets and depths), or 0 and the verdict. */
-static int call_own_verdict(const State *s, const Lent *m, Verdict *v)
+static int own_verdict(const State *s, const Lent *m, Verdict *v)
 {
     Hull h[2];
     if (has_ended(s)) return 20;
@@ -178,13 +232,13 @@ static int call_own_verdict(const State *s, const Lent *m, Verdict *v)
 
 /* The loop above the step: its own verdict to each step until the search has
  * ended; a refused step ends it with that number. */
-static int call_run(State *s, const Lent *m)
+static int run(State *s, const Lent *m)
 {
     while (!has_ended(s)) {
         Verdict v = SETTLED;
         int no;
-        no = call_own_verdict(s, m, &v);
-        if (!no) no = call_step(s, v, m);
+        no = own_verdict(s, m, &v);
+        if (!no) no = step(s, v, m);
         if (no) return no;
     }
     return 0;
@@ -196,7 +250,7 @@ typedef struct { int word; uint64_t regions; } Told;
 
 /* A report: 21, 19, or 0 with the raw list whole in the raw slice, and the
  * merged regions, then +0 up to the raw list's length, in the report slice. */
-static int call_report(const State *s, const Lent *m, Told *t)
+static int report(const State *s, const Lent *m, Told *t)
 {
     uint64_t n = (uint64_t)s->given + s->waiting;
     Region *list = (Region *)m->report.at;
@@ -237,10 +291,12 @@ static int take_given(const Given *g, Line *l)
     return fault;
 }
 
+/* ---- the calls: a state comes and goes as words ------------------------ */
+
 /* The opening: the number, with 256 times the line for 4 to 15 and 18, or 0
- * and the first state. */
+ * and the first state's words. The words are a lent slice as the pieces are. */
 static int call_open(const Given given[2], const double range[2][2], double gap,
-                     uint32_t splits, const Lent *m, State *s)
+                     uint32_t splits, const Lent *m, uint64_t *w, size_t n)
 {
     static Sheet sheet;
     static Search breaks; /* for its breaks, widths and counts of pieces */
@@ -259,6 +315,7 @@ static int call_open(const Given given[2], const double range[2][2], double gap,
     sheet.splits_per_pair = splits;
     r = ask(&sheet, &breaks);
     if (r.number) return r.number + 256 * r.line;
+    if (n < STATE_WORDS) return 19;
     for (int i = 0; i < 2; i++)
         if (4 * (size_t)breaks.width[i] * breaks.piece_count[i] > m->pieces[i].length)
             return 19;
@@ -292,6 +349,60 @@ static int call_open(const Given given[2], const double range[2][2], double gap,
             m->depths.at[k] = 0;
             first.waiting++;
         }
-    *s = first;
+    write_words(&first, w);
     return 0;
+}
+
+/* A verdict as a number: "every other number of 32 bits Unseparated". */
+static Verdict verdict_of(uint32_t n)
+{
+    return n == 1 ? SETTLED : n == 2 ? SPLIT : UNSEPARATED;
+}
+
+/* 19 for words that are no state's comes before everything else. */
+static int call_step(uint32_t verdict, uint64_t *w, size_t n, const Lent *m)
+{
+    State s;
+    int no;
+    if (!read_words(w, n, &s)) return 19;
+    no = step(&s, verdict_of(verdict), m);
+    if (no == 0) move_words(&s, w);
+    return no;
+}
+
+static int call_own_verdict(const uint64_t *w, size_t n, const Lent *m)
+{
+    State s;
+    Verdict v = SETTLED;
+    int no;
+    if (!read_words(w, n, &s)) return 19;
+    no = own_verdict(&s, m, &v);
+    return no ? no : v == SETTLED ? 1 : v == SPLIT ? 2 : 3;
+}
+
+static int call_run(uint64_t *w, size_t n, const Lent *m)
+{
+    State s;
+    int no;
+    if (!read_words(w, n, &s)) return 19;
+    no = run(&s, m);
+    if (no == 0) move_words(&s, w);
+    return no;
+}
+
+/* The counts are a lent slice too: 19 after 21. */
+static int call_report(const uint64_t *w, size_t n, const Lent *m, uint64_t *counts, size_t length)
+{
+    State s;
+    Told t;
+    int no;
+    if (!read_words(w, n, &s)) return 19;
+    if (!has_ended(&s)) return 21;
+    if (length < COUNT_WORDS) return 19;
+    no = report(&s, m, &t);
+    if (no == 0) {
+        uint64_t now[COUNT_WORDS] = { (uint64_t)t.word, s.pairs, s.visits, s.splits, s.settled, s.given, s.waiting, s.unspent, t.regions };
+        memcpy(counts, now, sizeof now);
+    }
+    return no;
 }

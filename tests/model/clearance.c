@@ -36,9 +36,6 @@ enum {
     MAX_SPLITS = 256,
     MAX_DEPTH = 64
 };
-#ifndef NET_POINTS
-#define NET_POINTS MAX_WIDTH         /* calls.c has wider nets */
-#endif
 #define MAX_KNOT 1048576.0           /* 2^20 */
 #define MAX_COORDINATE 16777216.0    /* 2^24 */
 #define MAX_GAP 16777216.0           /* 2^24 */
@@ -433,7 +430,7 @@ static void fill_piece(const Line *l, double t0, double t1, double *net)
 static void halve_net(const double *net, int width, double *lower,
                       double *upper)
 {
-    double rest[4 * NET_POINTS];
+    double rest[4 * MAX_WIDTH];
     memcpy(rest, net, (size_t)(4 * width) * sizeof *rest);
     for (int r = 0; r < width; r++) {
         memcpy(lower + 4 * r, rest, 4 * sizeof *rest);
@@ -451,7 +448,7 @@ typedef struct { double x[3]; } Vec;
 typedef struct {
     int width;
     int measured;
-    Vec point[NET_POINTS];
+    Vec point[MAX_WIDTH];
     double box[6]; /* lowest x, y, z, highest x, y, z */
 } Hull;
 

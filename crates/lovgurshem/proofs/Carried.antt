@@ -1,11 +1,11 @@
--- What one call leaves is what the next one reads: words and state are each other's, and no call changes the gap. Assumes nothing.
+-- What one call leaves is what the next one reads: words and state are each other's, and no step changes what its words leave. Assumes nothing.
 use mathlib.Core.Path.{_≡_, refl, sym, ap, subst, _∙_}
 use mathlib.Core.Bool.{Bool, true, false, _&&_, cond}
 use mathlib.Core.List.{List}
 use Prim.Native.Nat.{ℕ, zero, suc, _+_, _*_}
 use borrow.Author.Tests.{le-leb}
-use lib.Dec.{leb}
-use lib.Ieee.{Float}
+use lib.Dec.{T, leb}
+use lib.Ieee.{Float, binary64, fits}
 use Rattle.floats.specs.Stations.{Piece}
 use Rattle.machine.specs.Machine.{limit}
 use Rattle.verdicts.specs.declared.Verdict.{Verdict}
@@ -26,59 +26,66 @@ use Rattle.opening.specs.declared.Opened.{Opened}
 use Rattle.opening.specs.declared.Opened.the-variants.{Open, BadLine, BadQuestion, NoRoom as NoOpenRoom}
 use Rattle.opening.specs.Asked.{start, stateOf as searchState}
 use Rattle.opening.specs.Opens.{searchFor, isAdmitted, isFine, piecesFit, Pushing, pushing, Opening, opening, openPieces, openDef}
-use Rattle.words.proofs.Laws.{reads-back}
-use Rattle.words.specs.Words.{stateOf, verdictOf}
+use Rattle.words.proofs.Laws.{within, reads-back, reads-moved}
+use Rattle.words.specs.Words.{isState, stateOf, verdictOf}
 use Rattle.lovgurshem.specs.Answers.{openedWords, steppedWords}
 use Rattle.lovgurshem.specs.Calls.{callOpen, callStep, callRun}
 use Rattle.lovgurshem.specs.Carried.{OpenCarried, StepCarried, RunCarried}
 
--- ---- no call changes the gap
-abbrev gapIn : Stepped → Float → Float
-gapIn (Next x) g = x .gap
-gapIn Ended g = g
-gapIn NoRoom g = g
+-- ---- what no step changes: P, S, the widths and the gap
+abbrev Fixed : Type 0
+Fixed = ℕ × ℕ × ℕ × ℕ × Float
+
+abbrev fixed : State → Fixed
+fixed x = (x .pairs, x .quota, x .width1, x .width2, x .gap)
+
+abbrev fixedIn : Stepped → Fixed → Fixed
+fixedIn (Next x) g = fixed x
+fixedIn Ended g = g
+fixedIn NoRoom g = g
 
 module _ (G : Geometry) where
   module _ (x : State) (u : Memory) where
-    divide-gap : (b : Bool) (s k d : ℕ) (p q : Piece) → gapIn (divideAt G b s k x u p q d .answer) (x .gap) ≡ x .gap
-    divide-gap true s k d p q = refl
-    divide-gap false zero k d p q = refl
-    divide-gap false (suc s) k d p q = refl
+    divide-fixed : (b : Bool) (s k d : ℕ) (p q : Piece) → fixedIn (divideAt G b s k x u p q d .answer) (fixed x) ≡ fixed x
+    divide-fixed true s k d p q = refl
+    divide-fixed false zero k d p q = refl
+    divide-fixed false (suc s) k d p q = refl
 
-    act-gap : (n : ℕ) (v : Verdict) → gapIn (actOn G n v x u .answer) (x .gap) ≡ x .gap
-    act-gap zero v = refl
-    act-gap (suc k) Settled = refl
-    act-gap (suc k) Split = divide-gap (leb limit (depthAt (u .depths) k)) (x .unspent) k (depthAt (u .depths) k) (part1 x u k) (part2 x u k)
-    act-gap (suc k) Unseparated = refl
+    act-fixed : (n : ℕ) (v : Verdict) → fixedIn (actOn G n v x u .answer) (fixed x) ≡ fixed x
+    act-fixed zero v = refl
+    act-fixed (suc k) Settled = refl
+    act-fixed (suc k) Split = divide-fixed (leb limit (depthAt (u .depths) k)) (x .unspent) k (depthAt (u .depths) k) (part1 x u k) (part2 x u k)
+    act-fixed (suc k) Unseparated = refl
 
-    step-gap : (v : Verdict) → gapIn (stepDef G x u v .answer) (x .gap) ≡ x .gap
-    step-gap v = go (over x) (enough (needed x) (sizes u) && isSearch x u)
+    step-fixed : (v : Verdict) → fixedIn (stepDef G x u v .answer) (fixed x) ≡ fixed x
+    step-fixed v = go (over x) (enough (needed x) (sizes u) && isSearch x u)
       where
-        go : (a b : Bool) → gapIn (cond {A = Stepping} a (stepping Ended u) (cond b (actOn G (x .waiting) v x u) (stepping NoRoom u)) .answer) (x .gap) ≡ x .gap
+        go : (a b : Bool) → fixedIn (cond {A = Stepping} a (stepping Ended u) (cond b (actOn G (x .waiting) v x u) (stepping NoRoom u)) .answer) (fixed x) ≡ fixed x
         go true b = refl
-        go false true = act-gap (x .waiting) v
+        go false true = act-fixed (x .waiting) v
         go false false = refl
 
-    carried-gap : (a : Own) → gapIn (carriedOut G x u a .answer) (x .gap) ≡ x .gap
-    carried-gap (Is v) = step-gap v
-    carried-gap OwnEnded = refl
-    carried-gap OwnNoRoom = refl
+    carried-fixed : (a : Own) → fixedIn (carriedOut G x u a .answer) (fixed x) ≡ fixed x
+    carried-fixed (Is v) = step-fixed v
+    carried-fixed OwnEnded = refl
+    carried-fixed OwnNoRoom = refl
 
-  turned-gap : (n : ℕ) → ((y : State) (m : Memory) → gapIn (runFor G n y m .answer) (y .gap) ≡ y .gap) → (x : State) (g : Float) (a : Stepped) (m : Memory)
-      → gapIn a g ≡ g → gapIn (turned (runFor G n) x (stepping a m) .answer) g ≡ g
-  turned-gap n f x g (Next y) m e = subst (λ (h : Float). gapIn (runFor G n y m .answer) h ≡ h) e (f y m)
-  turned-gap n f x g Ended m e = refl
-  turned-gap n f x g NoRoom m e = refl
+  turned-fixed : (n : ℕ) → ((y : State) (m : Memory) → fixedIn (runFor G n y m .answer) (fixed y) ≡ fixed y) → (x : State) (g : Fixed) (a : Stepped) (m : Memory)
+      → fixedIn a g ≡ g → fixedIn (turned (runFor G n) x (stepping a m) .answer) g ≡ g
+  turned-fixed n f x g (Next y) m e = subst (λ (h : Fixed). fixedIn (runFor G n y m .answer) h ≡ h) e (f y m)
+  turned-fixed n f x g Ended m e = refl
+  turned-fixed n f x g NoRoom m e = refl
 
-  run-gap : (n : ℕ) (x : State) (u : Memory) → gapIn (runFor G n x u .answer) (x .gap) ≡ x .gap
-  run-gap zero x u = refl
-  run-gap (suc n) x u = go (over x) (run-gap n)
+  run-fixed : (n : ℕ) (x : State) (u : Memory) → fixedIn (runFor G n x u .answer) (fixed x) ≡ fixed x
+  run-fixed zero x u = refl
+  run-fixed (suc n) x u = go (over x) (run-fixed n)
     where
-      go : (b : Bool) → ((y : State) (m : Memory) → gapIn (runFor G n y m .answer) (y .gap) ≡ y .gap)
-          → gapIn (cond {A = Stepping} b (stepping (Next x) u) (turned (runFor G n) x (ownStepDef G x u)) .answer) (x .gap) ≡ x .gap
+      go : (b : Bool) → ((y : State) (m : Memory) → fixedIn (runFor G n y m .answer) (fixed y) ≡ fixed y)
+          → fixedIn (cond {A = Stepping} b (stepping (Next x) u) (turned (runFor G n) x (ownStepDef G x u)) .answer) (fixed x) ≡ fixed x
       go true f = refl
-      go false f = turned-gap n f x (x .gap) (ownStepDef G x u .answer) (ownStepDef G x u .memory) (carried-gap x u (ownDef G x u))
+      go false f = turned-fixed n f x (fixed x) (ownStepDef G x u .answer) (ownStepDef G x u .memory) (carried-fixed x u (ownDef G x u))
 
+-- ---- an opening's gap is the question's
 abbrev gapOpen : Opened → Float → Float
 gapOpen (Open x) g = x .gap
 gapOpen (BadLine line a) g = g
@@ -107,27 +114,29 @@ open-gap q p1 p2 u =
     go false b c d o = refl
 
 -- ---- the next call reads the state that was answered
-next-read : (ws : List ℕ) (gap : Float) (a : Stepped) (y : State) → gapIn a gap ≡ gap → a ≡ Next y → stateOf (steppedWords ws a) gap ≡ y
-next-read ws gap a y f e =
-    let g : y .gap ≡ gap = ap (λ (b : Stepped). gapIn b gap) (sym e) ∙ f in
-    (λ i. stateOf (steppedWords ws (e i)) (sym g i)) ∙ reads-back ws y
+next-read : (ws : List ℕ) (a : Stepped) (y : State) → isState ws ≡ true → fixedIn a (fixed (stateOf ws)) ≡ fixed (stateOf ws) → a ≡ Next y
+    → stateOf (steppedWords ws a) ≡ y
+next-read ws a y t f e =
+    let g : fixed (stateOf ws) ≡ fixed y = sym f ∙ ap (λ (b : Stepped). fixedIn b (fixed (stateOf ws))) e in
+    (λ i. stateOf (steppedWords ws (e i)))
+    ∙ reads-moved ws y (within ws t .long) (ap (λ (k : Fixed). k .0) g) (ap (λ (k : Fixed). k .1) g) (ap (λ (k : Fixed). k .2) g)
+    (ap (λ (k : Fixed). k .3) g) (ap (λ (k : Fixed). k .4) g)
 
-open-read : (ws : List ℕ) (gap : Float) (a : Opened) (x : State) → gapOpen a gap ≡ gap → a ≡ Open x → stateOf (openedWords ws a) gap ≡ x
-open-read ws gap a x f e =
+open-read : (ws : List ℕ) (gap : Float) (a : Opened) (x : State) → T (fits binary64 gap) → gapOpen a gap ≡ gap → a ≡ Open x → stateOf (openedWords ws a) ≡ x
+open-read ws gap a x d f e =
     let g : x .gap ≡ gap = ap (λ (b : Opened). gapOpen b gap) (sym e) ∙ f in
-    (λ i. stateOf (openedWords ws (e i)) (sym g i)) ∙ reads-back ws x
+    (λ i. stateOf (openedWords ws (e i))) ∙ reads-back ws x (subst (λ (h : Float). T (fits binary64 h)) (sym g) d)
 
 pub open-carried : OpenCarried
 unfolding callOpen
-open-carried q p1 p2 u ws x h e = rw (le-leb _ _ h) (open-read ws (q .gap) (openDef q p1 p2 u .answer) x (open-gap q p1 p2 u) e)
+open-carried q p1 p2 u ws x d h e = rw (le-leb _ _ h) (open-read ws (q .gap) (openDef q p1 p2 u .answer) x d (open-gap q p1 p2 u) e)
 
 pub step-carried : StepCarried
 unfolding callStep
-step-carried n ws gap u y t e =
-    rw t (next-read ws gap (stepDef geometry (stateOf ws gap) u (verdictOf n) .answer) y (step-gap geometry (stateOf ws gap) u (verdictOf n)) e)
+step-carried n ws u y t e =
+    rw t (next-read ws (stepDef geometry (stateOf ws) u (verdictOf n) .answer) y t (step-fixed geometry (stateOf ws) u (verdictOf n)) e)
 
 pub run-carried : RunCarried
 unfolding callRun
-run-carried ws gap u y t e =
-    rw t (next-read ws gap (runDef geometry (stateOf ws gap) u .answer) y
-    (run-gap geometry (2 * stateOf ws gap .unspent + stateOf ws gap .waiting + 1) (stateOf ws gap) u) e)
+run-carried ws u y t e =
+    rw t (next-read ws (runDef geometry (stateOf ws) u .answer) y t (run-fixed geometry (2 * stateOf ws .unspent + stateOf ws .waiting + 1) (stateOf ws) u) e)

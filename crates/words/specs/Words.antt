@@ -3,25 +3,37 @@ use mathlib.Core.List.{List, [], _∷_}
 use mathlib.Core.Bool.{Bool, true, false, _&&_, cond}
 use Prim.Native.Nat.{ℕ, _≤_}
 use lib.Dec.{leb, eqb}
-use lib.ListN.{length, getD}
-use lib.Ieee.{Float}
+use lib.ListN.{length, getD, set}
+use lib.Ieee.{binary64, ofBits, toBits}
+use Rattle.lists.specs.Parts.{part, patch}
+use Rattle.lists.specs.Tests.{every}
 use Rattle.verdicts.specs.declared.Verdict.{Verdict}
 use Rattle.verdicts.specs.declared.Verdict.the-variants.{Settled, Split, Unseparated}
 use Rattle.states.specs.declared.State.{State}
 
--- ---- a state as eleven words, the gap beside them
+-- ---- a state as 23 words: 0 to 7 pairs, quota, waiting, visits, splits, unspent, settled, given; 8 and 9 the widths; 10 stopped; 11 the gap's bits; 12 to 22 have no bits
 
 abbrev pub flagOf : Bool → ℕ
 flagOf true = 1
 flagOf false = 0
 
--- pairs, quota, waiting, visits, splits, unspent, settled, given, width1, width2, stopped (`state_words`)
-abbrev pub wordsOf : State → List ℕ
-wordsOf x = x .pairs ∷ x .quota ∷ x .waiting ∷ x .visits ∷ x .splits ∷ x .unspent ∷ x .settled ∷ x .given ∷ x .width1 ∷ x .width2 ∷ flagOf (x .stopped) ∷ []
+-- words 12 to 22: none has bits, so each is 0
+abbrev pub noBits : List ℕ
+noBits = 0 ∷ 0 ∷ 0 ∷ 0 ∷ 0 ∷ 0 ∷ 0 ∷ 0 ∷ 0 ∷ 0 ∷ 0 ∷ []
 
--- the state that the first eleven words are (`read_state`)
-abbrev pub stateOf : List ℕ → Float → State
-stateOf ws gap = record {
+-- all words, as the opening writes them (`state_words`)
+abbrev pub wordsOf : State → List ℕ
+wordsOf x =
+    x .pairs ∷ x .quota ∷ x .waiting ∷ x .visits ∷ x .splits ∷ x .unspent ∷ x .settled ∷ x .given ∷ x .width1 ∷ x .width2 ∷ flagOf (x .stopped) ∷ toBits binary64 (x .gap)
+    ∷ noBits
+
+-- the words that a step moves, 2 to 7 and 10, each in its place; the others stay (`move_state`)
+abbrev pub movedWords : List ℕ → State → List ℕ
+movedWords ws x = set (patch ws 2 (x .waiting ∷ x .visits ∷ x .splits ∷ x .unspent ∷ x .settled ∷ x .given ∷ [])) 10 (flagOf (x .stopped))
+
+-- the state that words are; every pattern of word 11 is a gap (`read_state`)
+abbrev pub stateOf : List ℕ → State
+stateOf ws = record {
   pairs = getD ws 0 0;
   quota = getD ws 1 0;
   waiting = getD ws 2 0;
@@ -32,28 +44,39 @@ stateOf ws gap = record {
   given = getD ws 7 0;
   width1 = getD ws 8 0;
   width2 = getD ws 9 0;
-  gap = gap;
+  gap = ofBits binary64 (getD ws 11 0);
   stopped = eqb (getD ws 10 0) 1;
 }
 
--- eleven words or more, each within its field's width: 16, 16, 32, 64, 32, 32, 32, 32, 8 and 8 bits, and stopped 0 or 1 (`is_state`)
-abbrev pub isState : List ℕ → Bool
-isState ws =
-    leb 11 (length ws)
-    && (leb (getD ws 0 0) 65535
+-- ---- which words are a state's
+
+-- pairs, quota, waiting, splits, unspent, settled, given within 16, 16 and 32 bits, and stopped 0 or 1; visits has all 64 (`counts_fit`)
+abbrev pub countsFit : List ℕ → Bool
+countsFit ws =
+    leb (getD ws 0 0) 65535
     && (leb (getD ws 1 0) 65535
     && (leb (getD ws 2 0) 4294967295
     && (leb (getD ws 4 0) 4294967295
     && (leb (getD ws 5 0) 4294967295
     && (leb (getD ws 6 0) 4294967295
     && (leb (getD ws 7 0) 4294967295
-    && (leb (getD ws 8 0) 255
-    && (leb (getD ws 9 0) 255
-    && leb (getD ws 10 0) 1)))))))))
+    && leb (getD ws 10 0) 1))))))
 
--- the same as facts on numbers, for `read_state`; the fourth word has 64 bits
+-- the points of a net, degree + 1: 2 to 26 (`is_width`)
+abbrev pub isWidth : ℕ → Bool
+isWidth n = leb 2 n && leb n 26
+
+-- each word is 0 (`are_zero`)
+abbrev pub areZero : List ℕ → Bool
+areZero ws = every (λ n. eqb n 0) ws
+
+-- 23 words or more, each within its bits (`is_state`)
+abbrev pub isState : List ℕ → Bool
+isState ws = leb 23 (length ws) && (countsFit ws && (isWidth (getD ws 8 0) && (isWidth (getD ws 9 0) && areZero (part 12 11 ws))))
+
+-- the same as facts on numbers, for `read_state`
 pub record Within (ws : List ℕ) : Type 0 where
-  pub long : 11 ≤ length ws
+  pub long : 23 ≤ length ws
   pub pairs : getD ws 0 0 ≤ 65535
   pub quota : getD ws 1 0 ≤ 65535
   pub waiting : getD ws 2 0 ≤ 4294967295
@@ -61,9 +84,9 @@ pub record Within (ws : List ℕ) : Type 0 where
   pub unspent : getD ws 5 0 ≤ 4294967295
   pub settled : getD ws 6 0 ≤ 4294967295
   pub given : getD ws 7 0 ≤ 4294967295
-  pub width1 : getD ws 8 0 ≤ 255
-  pub width2 : getD ws 9 0 ≤ 255
   pub stopped : getD ws 10 0 ≤ 1
+  pub width1 : getD ws 8 0 ≤ 26
+  pub width2 : getD ws 9 0 ≤ 26
 
 -- ---- verdicts as numbers
 

@@ -1,23 +1,21 @@
-// A state as eleven words of 64 bits, the gap beside them, and verdicts as numbers: how other programs hand them over.
+// A state as 23 words of 64 bits, and verdicts as numbers: how other programs hand them over.
 ghost use mathlib.Core.Path.{_≡_};
 ghost use mathlib.Core.Bool.{true};
 ghost use Prim.Native.Nat.{_≤_};
 ghost use lib.ListN.{length};
 ghost use Rattle.lists.specs.Parts.{patch};
 ghost use Rattle.verdicts.specs.Verdicts.{verdictNumber};
-ghost use Rattle.words.specs.Words.{flagOf, wordsOf, stateOf, isState, Within, verdictOf};
+ghost use Rattle.words.specs.Words.{flagOf, wordsOf, movedWords, stateOf, countsFit, isWidth, areZero, isState, Within, verdictOf};
 use states::State;
 use verdicts::Verdict;
 
-// ---- a state as words
+// ---- which words are a state's
 
-// Whether the words are a state's: eleven or more, each within its field's width.
-pub fn is_state(w: &[u64]) -> bool
-    ensures { λ r. ⌜ r ≡ isState (now (w .entry)) ⌝ }
+// Whether the numbers of a search are within their fields; visits has all 64 bits.
+fn counts_fit(w: &[u64]) -> bool
+    requires { ⌜ 23 ≤ length (now w) ⌝ }
+    ensures { λ r. ⌜ r ≡ countsFit (now (w .entry)) ⌝ }
 {
-    if w.len() < 11 {
-        return false;
-    }
     if w[0] > 65535 {
         return false;
     }
@@ -39,18 +37,56 @@ pub fn is_state(w: &[u64]) -> bool
     if w[7] > 4294967295 {
         return false;
     }
-    if w[8] > 255 {
-        return false;
-    }
-    if w[9] > 255 {
-        return false;
-    }
     w[10] <= 1
 }
 
-pub fn read_state(w: &[u64], gap: f64) -> State
+// The points of a net, degree + 1.
+fn is_width(n: u64) -> bool
+    ensures { λ r. ⌜ r ≡ isWidth n ⌝ }
+{
+    if n < 2 {
+        return false;
+    }
+    n <= 26
+}
+
+fn are_zero(w: &[u64]) -> bool
+    ensures { λ r. ⌜ r ≡ areZero (now (w .entry)) ⌝ }
+{
+    let mut i = 0usize;
+    while i < w.len() {
+        if w[i] != 0 {
+            return false;
+        }
+        i += 1;
+    }
+    true
+}
+
+// Whether the words are a state's: 23 or more, each within its bits. Words 12 to 22 have none.
+pub fn is_state(w: &[u64]) -> bool
+    ensures { λ r. ⌜ r ≡ isState (now (w .entry)) ⌝ }
+{
+    if w.len() < 23 {
+        return false;
+    }
+    if !counts_fit(w) {
+        return false;
+    }
+    if !is_width(w[8]) {
+        return false;
+    }
+    if !is_width(w[9]) {
+        return false;
+    }
+    are_zero(&w[12..23])
+}
+
+// ---- a state from words, and its words
+
+pub fn read_state(w: &[u64]) -> State
     requires { ⌜ Within (now w) ⌝ }
-    ensures { λ r. ⌜ r ≡ stateOf (now (w .entry)) gap ⌝ }
+    ensures { λ r. ⌜ r ≡ stateOf (now (w .entry)) ⌝ }
 {
     State {
         pairs: w[0] as u16,
@@ -63,7 +99,7 @@ pub fn read_state(w: &[u64], gap: f64) -> State
         given: w[7] as u32,
         width1: w[8] as u8,
         width2: w[9] as u8,
-        gap,
+        gap: patterns::float(w[11]),
         stopped: w[10] == 1,
     }
 }
@@ -83,8 +119,8 @@ fn wide(x: u8) -> u64
     x as u64
 }
 
-fn state_words(st: State) -> [u64; 11]
-    ensures { λ r. ⌜ (r ≡ wordsOf st) × (isState (wordsOf st) ≡ true) ⌝ }
+fn state_words(st: State) -> [u64; 23]
+    ensures { λ r. ⌜ (r ≡ wordsOf st) × (countsFit (wordsOf st) ≡ true) ⌝ }
 {
     [
         st.pairs as u64,
@@ -98,6 +134,18 @@ fn state_words(st: State) -> [u64; 11]
         wide(st.width1),
         wide(st.width2),
         flag(st.stopped),
+        patterns::pattern(st.gap),
+        0,
+        0,
+        0,
+        0,
+        0,
+        0,
+        0,
+        0,
+        0,
+        0,
+        0,
     ]
 }
 
@@ -113,12 +161,29 @@ pub fn put_words(words: &[u64], w: &mut [u64])
     }
 }
 
+// All words of a state; they are a state's where the widths are.
 pub fn put_state(st: State, w: &mut [u64])
-    requires { ⌜ 11 ≤ length (now w) ⌝ }
-    ensures { λ _. ⌜ (now (w .exit) ≡ patch (now (w .entry)) 0 (wordsOf st)) × (isState (now (w .exit)) ≡ true) ⌝ }
+    requires { ⌜ 23 ≤ length (now w) ⌝ }
+    ensures { λ _. ⌜ now (w .exit) ≡ patch (now (w .entry)) 0 (wordsOf st) ⌝ }
+    ensures { λ _. ⌜ (isWidth (st .width1) ≡ true → isWidth (st .width2) ≡ true → isState (now (w .exit)) ≡ true) ⌝ }
 {
     let words = state_words(st);
     put_words(&words, w);
+}
+
+// The words that a step moves: P, S, the widths and the gap stay.
+pub fn move_state(st: State, w: &mut [u64])
+    requires { ⌜ 23 ≤ length (now w) ⌝ }
+    ensures { λ _. ⌜ now (w .exit) ≡ movedWords (now (w .entry)) st ⌝ }
+    ensures { λ _. ⌜ (isState (now (w .entry)) ≡ true → isState (now (w .exit)) ≡ true) ⌝ }
+{
+    w[2] = st.waiting as u64;
+    w[3] = st.visits;
+    w[4] = st.splits as u64;
+    w[5] = st.unspent as u64;
+    w[6] = st.settled as u64;
+    w[7] = st.given as u64;
+    w[10] = flag(st.stopped);
 }
 
 // ---- verdicts as numbers
@@ -134,7 +199,7 @@ pub fn verdict_number(v: Verdict) -> u32
 }
 
 // 1 is Settled, 2 Split, every other number Unseparated.
-pub fn verdict_of(n: u8) -> Verdict
+pub fn verdict_of(n: u32) -> Verdict
     ensures { λ r. ⌜ r ≡ verdictOf n ⌝ }
 {
     if n == 1 {

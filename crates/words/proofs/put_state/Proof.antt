@@ -25,8 +25,9 @@ returns : tie.Need-returns
 returns c =
     let args = c .before .before .before .before .before .before .before .args in
     let w = args .w .now in
-    let e = c .before .before .put-words .ensures ∙ ap (λ (l : List ℕ). patch w 0 l) (c .before .before .before .before .before .state-words .ensures .0) in
-    (e, ap isState e ∙ written-state w (args .st) (c .before .before .before .before .before .state-words .ensures .1))
+    let s = c .before .before .before .before .before .state-words in
+    let e = c .before .before .put-words .ensures ∙ ap (λ (l : List ℕ). patch w 0 l) (s .ensures .0) in
+    (e, λ f g. ap isState e ∙ written-state w (args .st) (s .ensures .1) f g)
 
 pub put-state-spec : {M : Type 1} → statement M
 put-state-spec =

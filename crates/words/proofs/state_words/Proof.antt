@@ -1,7 +1,7 @@
 -- A state's words, one an element. Assumes nothing.
 use borrow.Author.Needs.{needs}
 use native.Mathlib.Omega.{arith}
-use Rattle.words.proofs.Laws.{words-are, are-state}
+use Rattle.words.proofs.Laws.{words-are, counts-fit}
 use Rattle.words.proofs.state_words.Statement.{statement}
 use Rattle.words.proofs.state_words.Tie as tie
 
@@ -35,14 +35,16 @@ wide-requires-2 c κs = search needs
 flag-requires : tie.Need-flag-requires
 flag-requires c κs = search needs
 
+pattern-requires : tie.Need-pattern-requires
+pattern-requires c κs = search needs
+
 returns : tie.Need-returns
 returns c =
-    let st = c .before .before .before .before .before .before .before .before .before .before .args .st in
-    let k = c .before .before .before .before .before .before .before .before .before .struct-known .given in (
-      words-are st (c .before .before .wide .ensures) (c .before .wide2 .ensures) (c .flag .ensures),
-      are-state st (omega (arith, k .0)) (omega (arith, k .1 .0)) (omega (arith, k .1 .1 .0)) (omega (arith, k .1 .1 .1 .1 .0))
-          (omega (arith, k .1 .1 .1 .1 .1 .0)) (omega (arith, k .1 .1 .1 .1 .1 .1 .0)) (omega (arith, k .1 .1 .1 .1 .1 .1 .1 .0))
-          (omega (arith, k .1 .1 .1 .1 .1 .1 .1 .1 .0)) (omega (arith, k .1 .1 .1 .1 .1 .1 .1 .1 .1 .0)),
+    let st = c .before .before .before .before .before .before .before .before .before .before .before .args .st in
+    let k = c .before .before .before .before .before .before .before .before .before .before .struct-known .given in (
+      words-are st (c .before .before .before .wide .ensures) (c .before .before .wide2 .ensures) (c .before .flag .ensures) (c .pattern .ensures),
+      counts-fit st (omega (arith, k .0)) (omega (arith, k .1 .0)) (omega (arith, k .1 .1 .0)) (omega (arith, k .1 .1 .1 .1 .0))
+          (omega (arith, k .1 .1 .1 .1 .1 .0)) (omega (arith, k .1 .1 .1 .1 .1 .1 .0)) (omega (arith, k .1 .1 .1 .1 .1 .1 .1 .0)),
     )
 
 pub state-words-spec : {M : Type 1} → statement M
@@ -59,4 +61,5 @@ state-words-spec =
     wide-requires
     wide-requires-2
     flag-requires
+    pattern-requires
     returns)

@@ -1,0 +1,116 @@
+-- An opening with too few words: every piece needs room, so an opening that is lent nothing is refused. Assumes nothing.
+use mathlib.Core.Path.{_≡_, refl, sym, ap, _∙_}
+use mathlib.Core.Bool.{Bool, true, false, _&&_, cond, false≢true}
+use mathlib.Core.List.{List, [], _∷_}
+use Prim.Native.Nat.{ℕ, _+_, _*_, _≤_, _<_}
+use native.Mathlib.Nat.{mul-le-mul}
+use native.Mathlib.Omega.{arith}
+use borrow.Author.Tests.{lt-leb}
+use lib.Dec.{leb, lit≤}
+use lib.ListN.{length}
+use lib.Ieee.{Float}
+use Rattle.lines.specs.declared.Admission.{Admission}
+use Rattle.lines.specs.declared.Admission.the-variants.{Admitted, InvalidDegree, KnotCount, KnotOutOfRange, KnotsNotIncreasing, MultiplicityTooLarge, ZeroMultiplicity, PoleCountMismatch, PoleCountOutOfRange, WeightCountMismatch, WeightOutOfRange, CoordinateOutOfRange}
+use Rattle.lines.specs.Admit.{admissionNumber}
+use Rattle.lines.specs.Lines.{Line, Question}
+use Rattle.knots.specs.Knots.{inside, between, breaksOf}
+use Rattle.curves.specs.Curves.{pieceCount}
+use Rattle.questions.specs.declared.Asked.{Asked as AskAnswer}
+use Rattle.questions.specs.declared.Asked.the-variants.{Fine, RangeOutOfBounds, GapOutOfRange, TooManySplits, BreaksTooClose}
+use Rattle.questions.specs.Questions.{askedNumber}
+use Rattle.facts.specs.Faults.{admission, asked}
+use Rattle.states.specs.States.{Memory, memory}
+use Rattle.opening.specs.declared.Opened.the-variants.{BadLine, BadQuestion, NoRoom}
+use Rattle.opening.specs.Opens.{openedNumber, isAdmitted, isFine, piecesNeed, piecesFit, Opening, opening, openPieces, openDef}
+use Rattle.lovgurshem.specs.Answers.{openAnswer}
+use Rattle.lovgurshem.specs.Calls.{openCall, opened, refusalOf, callOpen}
+use Rattle.lovgurshem.specs.Short.{passes, ShortState}
+
+-- ---- no pieces fit an empty slice
+some-between : (lo hi : Float) (ks l : List Float) → 1 ≤ length l → 1 ≤ length (between lo hi ks l)
+unfolding between
+some-between lo hi [] l h = h
+some-between lo hi (k ∷ ks) l h = go (inside lo hi k) (some-between lo hi ks l h)
+  where
+    go : (b : Bool) → 1 ≤ length (between lo hi ks l) → 1 ≤ length (cond b (k ∷ between lo hi ks l) (between lo hi ks l))
+    go true n = omega arith
+    go false n = n
+
+none-fit : (q : Question) (p : List Float) → piecesFit q [] p ≡ false
+none-fit q p =
+    let n = some-between (q .lo1) (q .hi1) (q .line1 .knots) (q .hi1 ∷ []) (lit≤ tt) in
+    let a : 1 ≤ pieceCount (q .lo1) (q .hi1) (q .line1 .knots) = omega (arith, n) in
+    let b : 4 ≤ 4 * (q .line1 .degree + 1) = omega arith in
+    let c : 0 < piecesNeed (q .line1) (q .lo1) (q .hi1) = let m = mul-le-mul a b in omega (arith, m) in
+    rw (lt-leb _ _ c) refl
+
+-- ---- the numbers of a line's and of a question's faults
+bad-line : (a : Admission) → isAdmitted a ≡ false → (4 ≤ admissionNumber a) × (admissionNumber a ≤ 18)
+bad-line Admitted e = absurd (false≢true (sym e))
+bad-line InvalidDegree e = (lit≤ tt, lit≤ tt)
+bad-line KnotCount e = (lit≤ tt, lit≤ tt)
+bad-line KnotOutOfRange e = (lit≤ tt, lit≤ tt)
+bad-line KnotsNotIncreasing e = (lit≤ tt, lit≤ tt)
+bad-line MultiplicityTooLarge e = (lit≤ tt, lit≤ tt)
+bad-line ZeroMultiplicity e = (lit≤ tt, lit≤ tt)
+bad-line PoleCountMismatch e = (lit≤ tt, lit≤ tt)
+bad-line PoleCountOutOfRange e = (lit≤ tt, lit≤ tt)
+bad-line WeightCountMismatch e = (lit≤ tt, lit≤ tt)
+bad-line WeightOutOfRange e = (lit≤ tt, lit≤ tt)
+bad-line CoordinateOutOfRange e = (lit≤ tt, lit≤ tt)
+
+bad-question : (a : AskAnswer) → isFine a ≡ false → (4 ≤ askedNumber a) × (askedNumber a ≤ 18)
+bad-question Fine e = absurd (false≢true (sym e))
+bad-question (RangeOutOfBounds line) e = (lit≤ tt, lit≤ tt)
+bad-question GapOutOfRange e = (lit≤ tt, lit≤ tt)
+bad-question TooManySplits e = (lit≤ tt, lit≤ tt)
+bad-question (BreaksTooClose line) e = (lit≤ tt, lit≤ tt)
+
+-- ---- the opening by its four tests
+module _ (q : Question) where
+  abbrev tested : Bool → Bool → Bool → Bool → List Float → List Float → Memory → Opening
+  tested a b c d p1 p2 u =
+      cond {A = Opening} a (cond b (cond c (cond d (openPieces q p1 p2 u) (opening NoRoom p1 p2 u)) (opening (BadQuestion (asked q)) p1 p2 u))
+      (opening (BadLine 2 (admission (q .line2))) p1 p2 u)) (opening (BadLine 1 (admission (q .line1))) p1 p2 u)
+
+  lent-nothing : (p1 p2 : List Float) (u : Memory) → refusalOf q ≡ cond (passes q) 19 (openAnswer (openDef q p1 p2 u .answer))
+  lent-nothing p1 p2 u =
+      go (isAdmitted (admission (q .line1))) (isAdmitted (admission (q .line2))) (isFine (asked q)) (piecesFit q [] []) (piecesFit q p1 p2) (none-fit q [])
+    where
+      go : (a b c d e : Bool) → d ≡ false
+          → openAnswer (tested a b c d [] [] (memory [] [] [] [] []) .answer) ≡ cond (a && (b && c)) 19 (openAnswer (tested a b c e p1 p2 u .answer))
+      go true true true true e h = absurd (false≢true (sym h))
+      go true true true false e h = refl
+      go true true false d e h = refl
+      go true false c d e h = refl
+      go false b c d e h = refl
+
+  fault-number : (p1 p2 : List Float) (u : Memory) → passes q ≡ false
+      → (4 ≤ openedNumber (openDef q p1 p2 u .answer)) × (openedNumber (openDef q p1 p2 u .answer) ≤ 18)
+  fault-number p1 p2 u =
+      go (isAdmitted (admission (q .line1))) (isAdmitted (admission (q .line2))) (isFine (asked q)) (piecesFit q p1 p2)
+      (bad-line (admission (q .line1))) (bad-line (admission (q .line2))) (bad-question (asked q))
+    where
+      go : (a b c d : Bool) → (a ≡ false → (4 ≤ admissionNumber (admission (q .line1))) × (admissionNumber (admission (q .line1)) ≤ 18))
+          → (b ≡ false → (4 ≤ admissionNumber (admission (q .line2))) × (admissionNumber (admission (q .line2)) ≤ 18))
+          → (c ≡ false → (4 ≤ askedNumber (asked q)) × (askedNumber (asked q) ≤ 18)) → (a && (b && c)) ≡ false
+          → (4 ≤ openedNumber (tested a b c d p1 p2 u .answer)) × (openedNumber (tested a b c d p1 p2 u .answer) ≤ 18)
+      go true true true d f g h e = absurd (false≢true (sym e))
+      go true true false d f g h e = h refl
+      go true false c d f g h e = g refl
+      go false b c d f g h e = f refl
+
+  -- lent nothing, no opening answers 0
+  pub some-refusal : refusalOf q ≡ 0 → ⊥
+  some-refusal z = go (passes q) refl (sym (lent-nothing [] [] (memory [] [] [] [] [])) ∙ z)
+    where
+      go : (b : Bool) → passes q ≡ b → cond b 19 (openAnswer (openDef q [] [] (memory [] [] [] [] []) .answer)) ≡ 0 → ⊥
+      go true e f = omega arith
+      go false e f = let k = fault-number [] [] (memory [] [] [] [] []) e .0 in omega (arith, k, f)
+
+pub short-state : ShortState
+unfolding callOpen
+short-state q p1 p2 u ws h = (
+  rw (lt-leb _ _ h) (ap (λ (n : ℕ). openCall n ws p1 p2 u) (lent-nothing q p1 p2 u)),
+  fault-number q p1 p2 u,
+)
