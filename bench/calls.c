@@ -1,5 +1,6 @@
-/* calls N < SHEET: lovgurshem_open, lovgurshem_run and lovgurshem_report on the sheet's lines and question, N times in one process, in memory that
-   is made once. The sheet is one that the program answers with a report. Prints the first of the report's counts and the number of regions. */
+/* calls N [steps] < SHEET: lovgurshem_open, lovgurshem_run and lovgurshem_report on the sheet's lines and question, N times in one process, in memory
+   that is made once; with `steps` each node gets lovgurshem_own_verdict and lovgurshem_step in the place of the loop. The sheet is one that the program
+   answers with a report. Prints the first of the report's counts and the number of regions. */
 #include "lovgurshem.h"
 #include <stdio.h>
 #include <stdlib.h>
@@ -48,9 +49,22 @@ static void read_line(struct line *l)
     if (next < word_count && words[next] >> 28 == 5) l->weight_count = floats(l->weights, count_of(5));
 }
 
+/* The own verdict to each step, until the search ends: 0 or the number of a refusal. */
+static uint32_t take_steps(void)
+{
+    for (;;) {
+        uint32_t verdict = lovgurshem_own_verdict(SLICE(state), SLICE(nets1), SLICE(nets2), SLICE(depths));
+        if (verdict == 20) return 0;
+        if (verdict > LOVGURSHEM_UNSEPARATED) return verdict;
+        uint32_t no = lovgurshem_step(verdict, SLICE(state), SLICE(nets1), SLICE(nets2), SLICE(ranges), SLICE(depths), SLICE(raw));
+        if (no != 0) return no;
+    }
+}
+
 int main(int argc, char **argv)
 {
-    long turns = argc == 2 ? atol(argv[1]) : 0;
+    long turns = argc == 2 || argc == 3 ? atol(argv[1]) : 0;
+    int steps = argc == 3;
     word_count = fread(words, 4, sizeof words / 4, stdin);
     read_line(&first);
     read_line(&second);
@@ -62,7 +76,7 @@ int main(int argc, char **argv)
                 first.degree, first.knots, first.knot_count, first.mults, first.mult_count, first.coords, first.coord_count, first.weights, first.weight_count,
                 second.degree, second.knots, second.knot_count, second.mults, second.mult_count, second.coords, second.coord_count, second.weights, second.weight_count,
                 SLICE(pieces1), SLICE(pieces2), SLICE(nets1), SLICE(nets2), SLICE(ranges), SLICE(depths), SLICE(raw), SLICE(state)) != 0
-            || lovgurshem_run(SLICE(state), SLICE(nets1), SLICE(nets2), SLICE(ranges), SLICE(depths), SLICE(raw)) != 0
+            || (steps ? take_steps() : lovgurshem_run(SLICE(state), SLICE(nets1), SLICE(nets2), SLICE(ranges), SLICE(depths), SLICE(raw))) != 0
             || lovgurshem_report(SLICE(state), SLICE(nets1), SLICE(nets2), SLICE(ranges), SLICE(depths), SLICE(raw), SLICE(report), SLICE(counts)) != 0)
             return 1;
     printf("%u %u\n", (unsigned)counts[0], (unsigned)counts[8]);

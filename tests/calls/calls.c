@@ -188,7 +188,7 @@ static uint64_t odd_word(int i, uint64_t word)
     if (i == 11) return odd_gap();
     if ((i == 8 || i == 9) && !one_in(4)) return widths[below(10)];
     switch (below(7)) {
-    case 0: return most[i];
+    case 0: return i > 11 ? 1 : most[i];
     case 1: case 2: return most[i] + 1;
     case 3: return UINT64_MAX - (one_in(2) ? 0 : below(9));
     case 4: return (uint64_t)1 << below(64);

@@ -6,14 +6,14 @@ use Prim.Native.Nat.{ℕ, _+_, _*_, _≤_, _<_}
 use native.Mathlib.Nat.{mul-le-mul}
 use native.Mathlib.Omega.{arith}
 use borrow.Author.Tests.{lt-leb}
-use lib.Dec.{leb, lit≤}
+use lib.Dec.{lit≤}
 use lib.ListN.{length}
 use lib.Ieee.{Float}
 use Rattle.lines.specs.declared.Admission.{Admission}
 use Rattle.lines.specs.declared.Admission.the-variants.{Admitted, InvalidDegree, KnotCount, KnotOutOfRange, KnotsNotIncreasing, MultiplicityTooLarge, ZeroMultiplicity, PoleCountMismatch, PoleCountOutOfRange, WeightCountMismatch, WeightOutOfRange, CoordinateOutOfRange}
 use Rattle.lines.specs.Admit.{admissionNumber}
-use Rattle.lines.specs.Lines.{Line, Question}
-use Rattle.knots.specs.Knots.{inside, between, breaksOf}
+use Rattle.lines.specs.Lines.{Question}
+use Rattle.knots.specs.Knots.{inside, between}
 use Rattle.curves.specs.Curves.{pieceCount}
 use Rattle.questions.specs.declared.Asked.{Asked as AskAnswer}
 use Rattle.questions.specs.declared.Asked.the-variants.{Fine, RangeOutOfBounds, GapOutOfRange, TooManySplits, BreaksTooClose}
@@ -23,7 +23,7 @@ use Rattle.states.specs.States.{Memory, memory}
 use Rattle.opening.specs.declared.Opened.the-variants.{BadLine, BadQuestion, NoRoom}
 use Rattle.opening.specs.Opens.{openedNumber, isAdmitted, isFine, piecesNeed, piecesFit, Opening, opening, openPieces, openDef}
 use Rattle.lovgurshem.specs.Answers.{openAnswer}
-use Rattle.lovgurshem.specs.Calls.{openCall, opened, refusalOf, callOpen}
+use Rattle.lovgurshem.specs.Calls.{openCall, refusalOf, callOpen}
 use Rattle.lovgurshem.specs.Short.{passes, ShortState}
 
 -- ---- no pieces fit an empty slice
@@ -101,8 +101,8 @@ module _ (q : Question) where
       go false b c d f g h e = f refl
 
   -- lent nothing, no opening answers 0
-  pub some-refusal : refusalOf q ≡ 0 → ⊥
-  some-refusal z = go (passes q) refl (sym (lent-nothing [] [] (memory [] [] [] [] [])) ∙ z)
+  pub some-refusal : {r : ℕ} → r ≡ refusalOf q → r ≡ 0 → ⊥
+  some-refusal e z = go (passes q) refl (sym (lent-nothing [] [] (memory [] [] [] [] [])) ∙ sym e ∙ z)
     where
       go : (b : Bool) → passes q ≡ b → cond b 19 (openAnswer (openDef q [] [] (memory [] [] [] [] []) .answer)) ≡ 0 → ⊥
       go true e f = omega arith

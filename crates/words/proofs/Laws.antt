@@ -10,7 +10,7 @@ use lib.ListN.{length, getD, set}
 use lib.Seq.{paste}
 use lib.Ieee.{Float, binary64, fits, ofBits, toBits}
 use lib.Ieee.Bits.{ofBits-toBits}
-use Rattle.lists.specs.Parts.{part, patch}
+use Rattle.lists.specs.Parts.{patch}
 use Rattle.lists.specs.Tests.{every}
 use Rattle.texts.proofs.Laws.{copy-turn}
 use Rattle.states.proofs.Tests.{and-first, and-second}
@@ -18,7 +18,7 @@ use Rattle.verdicts.specs.declared.Verdict.{Verdict}
 use Rattle.verdicts.specs.declared.Verdict.the-variants.{Settled, Split, Unseparated}
 use Rattle.states.specs.declared.State.{State}
 use Rattle.verdicts.specs.Verdicts.{verdictNumber}
-use Rattle.words.specs.Words.{flagOf, noBits, wordsOf, movedWords, stateOf, countsFit, isWidth, areZero, isState, Within, verdictOf}
+use Rattle.words.specs.Words.{flagOf, noBits, wordsOf, movedWords, stateOf, countsFit, isWidth, isState, Within, verdictOf}
 
 -- ---- the tests of the words, as facts on numbers
 and-both : (a b : Bool) → a ≡ true → b ≡ true → a && b ≡ true
@@ -112,7 +112,8 @@ pub moves-are : (ws : List ℕ) (x : State) {c : ℕ} → 23 ≤ length ws → c
     → set (set (set (set (set (set (set ws 2 (x .waiting)) 3 (x .visits)) 4 (x .splits)) 5 (x .unspent)) 6 (x .settled)) 7 (x .given)) 10 c ≡ movedWords ws x
 moves-are ws x {c} n e =
     eleven (λ (l : List ℕ). set (set (set (set (set (set (set l 2 (x .waiting)) 3 (x .visits)) 4 (x .splits)) 5 (x .unspent)) 6 (x .settled)) 7 (x .given)) 10 c
-    ≡ movedWords l x) (λ a b _ _ _ _ _ _ i j _ l. λ t. a ∷ b ∷ x .waiting ∷ x .visits ∷ x .splits ∷ x .unspent ∷ x .settled ∷ x .given ∷ i ∷ j ∷ e t ∷ l) ws (omega arith)
+    ≡ movedWords l x)
+    (λ a b _ _ _ _ _ _ i j _ l. λ t. a ∷ b ∷ x .waiting ∷ x .visits ∷ x .splits ∷ x .unspent ∷ x .settled ∷ x .given ∷ i ∷ j ∷ e t ∷ l) ws (omega arith)
 
 -- a state's words stay a state's: those that move have a state's numbers
 pub moved-state : (ws : List ℕ) (x : State) → x .waiting ≤ 4294967295 → x .splits ≤ 4294967295 → x .unspent ≤ 4294967295 → x .settled ≤ 4294967295

@@ -11,7 +11,8 @@ use Rattle.verdicts.specs.declared.Verdict.{Verdict}
 use Rattle.verdicts.specs.declared.Verdict.the-variants.{Settled, Split, Unseparated}
 use Rattle.states.specs.declared.State.{State}
 
--- ---- a state as 23 words: 0 to 7 pairs, quota, waiting, visits, splits, unspent, settled, given; 8 and 9 the widths; 10 stopped; 11 the gap's bits; 12 to 22 have no bits
+-- ---- a state as 23 words: 0 to 7 pairs, quota, waiting, visits, splits, unspent, settled, given; 8, 9 the widths; 10 stopped; 11 the gap's bits;
+-- 12 to 22 have no bits
 
 abbrev pub flagOf : Bool → ℕ
 flagOf true = 1
@@ -24,8 +25,8 @@ noBits = 0 ∷ 0 ∷ 0 ∷ 0 ∷ 0 ∷ 0 ∷ 0 ∷ 0 ∷ 0 ∷ 0 ∷ 0 ∷ []
 -- all words, as the opening writes them (`state_words`)
 abbrev pub wordsOf : State → List ℕ
 wordsOf x =
-    x .pairs ∷ x .quota ∷ x .waiting ∷ x .visits ∷ x .splits ∷ x .unspent ∷ x .settled ∷ x .given ∷ x .width1 ∷ x .width2 ∷ flagOf (x .stopped) ∷ toBits binary64 (x .gap)
-    ∷ noBits
+    x .pairs ∷ x .quota ∷ x .waiting ∷ x .visits ∷ x .splits ∷ x .unspent ∷ x .settled ∷ x .given ∷ x .width1 ∷ x .width2
+    ∷ flagOf (x .stopped) ∷ toBits binary64 (x .gap) ∷ noBits
 
 -- the words that a step moves, 2 to 7 and 10, each in its place; the others stay (`move_state`)
 abbrev pub movedWords : List ℕ → State → List ℕ

@@ -1,6 +1,6 @@
 -- An opening's answer as a number, by its four cases. Assumes nothing.
 use borrow.Author.Needs.{needs}
-use mathlib.Core.Path.{refl, sym, ap, _∙_}
+use mathlib.Core.Path.{sym, ap, _∙_}
 use Prim.Native.Nat.{_+_, _*_}
 use Rattle.lovgurshem.specs.Answers.{openAnswer}
 use Rattle.lovgurshem.proofs.open_number.Statement.{statement}

@@ -2,7 +2,7 @@
 use borrow.Author.Needs.{needs}
 use mathlib.Core.Path.{refl, sym, subst}
 use lib.Dec.{T}
-use lib.Ieee.{toBits, eq, ne}
+use lib.Ieee.{toBits}
 use lib.Ieee.Compare.{differs-from-itself}
 use Rattle.patterns.proofs.Laws.{same-not-nan}
 use Rattle.patterns.proofs.pattern.Statement.{statement}

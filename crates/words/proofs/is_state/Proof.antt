@@ -23,7 +23,8 @@ is-width-requires c κs = search needs
 
 returns-3 : tie.Need-returns-3
 returns-3 c =
-    passed (le-leb _ _ (c .before .before .before .before .before .if1 .left)) (passed (sym (c .before .before .before .before .counts-fit .ensures) ∙ not-false _ (c .before .before .before .if2 .left))
+    passed (le-leb _ _ (c .before .before .before .before .before .if1 .left))
+    (passed (sym (c .before .before .before .before .counts-fit .ensures) ∙ not-false _ (c .before .before .before .if2 .left))
     (failed _ (sym (c .before .is-width .ensures) ∙ not-true _ (c .if3 .taken))))
 
 shared-slice-read-is-width-2 : tie.Need-shared-slice-read-is-width-2
@@ -34,8 +35,11 @@ is-width-requires-2 c κs = search needs
 
 returns-4 : tie.Need-returns-4
 returns-4 c =
-    passed (le-leb _ _ (c .before .before .before .before .before .before .before .before .if1 .left)) (passed (sym (c .before .before .before .before .before .before .before .counts-fit .ensures) ∙ not-false _ (c .before .before .before .before .before .before .if2 .left))
-    (passed (sym (c .before .before .before .before .is-width .ensures) ∙ not-false _ (c .before .before .before .if3 .left)) (failed _ (sym (c .before .is-width2 .ensures) ∙ not-true _ (c .if4 .taken)))))
+    let b = c .before .before .before .before .before .before in
+    passed (le-leb _ _ (b .before .before .if1 .left))
+    (passed (sym (b .before .counts-fit .ensures) ∙ not-false _ (b .if2 .left))
+    (passed (sym (c .before .before .before .before .is-width .ensures) ∙ not-false _ (c .before .before .before .if3 .left))
+    (failed _ (sym (c .before .is-width2 .ensures) ∙ not-true _ (c .if4 .taken)))))
 
 sub-are-zero : tie.Need-sub-are-zero
 sub-are-zero c = search needs
@@ -51,8 +55,11 @@ are-zero-requires c κs = search needs
 
 returns-5 : tie.Need-returns-5
 returns-5 c =
-    passed (le-leb _ _ (c .before .before .before .before .before .before .before .before .before .before .if1 .left)) (passed (sym (c .before .before .before .before .before .before .before .before .before .counts-fit .ensures) ∙ not-false _ (c .before .before .before .before .before .before .before .before .if2 .left))
-    (passed (sym (c .before .before .before .before .before .before .is-width .ensures) ∙ not-false _ (c .before .before .before .before .before .if3 .left)) (passed (sym (c .before .before .before .is-width2 .ensures) ∙ not-false _ (c .before .before .if4 .left))
+    let b = c .before .before .before .before .before .before .before .before in
+    passed (le-leb _ _ (b .before .before .if1 .left))
+    (passed (sym (b .before .counts-fit .ensures) ∙ not-false _ (b .if2 .left))
+    (passed (sym (c .before .before .before .before .before .before .is-width .ensures) ∙ not-false _ (c .before .before .before .before .before .if3 .left))
+    (passed (sym (c .before .before .before .is-width2 .ensures) ∙ not-false _ (c .before .before .if4 .left))
     (c .are-zero .ensures))))
 
 pub is-state-spec : {M : Type 1} → statement M

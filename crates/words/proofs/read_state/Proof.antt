@@ -71,7 +71,9 @@ shared-slice-read-t35 : tie.Need-shared-slice-read-t35
 shared-slice-read-t35 c = search needs
 
 returns : tie.Need-returns
-returns c = state-is (c .before .before .before .before .before .before .before .before .before .before .before .before .before .before .args .w .now) (c .before .float .ensures)
+returns c =
+    let args = c .before .before .before .before .before .before .before .before .before .before .before .before .before .before .args in
+    state-is (args .w .now) (c .before .float .ensures)
 
 pub read-state-spec : {M : Type 1} → statement M
 read-state-spec =
