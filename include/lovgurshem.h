@@ -33,8 +33,8 @@
  *   open     4 to 14 of the first line, then of the second; 15 to 18; 19 for
  *            the state's words and the pieces; 19 for the rest
  *   others   19 for words that are no state's (below), before everything else;
- *            then own verdict and step 20, then 19; report 21, then 19, for
- *            its counts too
+ *            then in own verdict and step 20, in report 21; then 19, in report
+ *            for the counts too (run is refused as the step that it takes)
  *
  * STATE. A search's state is LOVGURSHEM_STATE words, written whole by the
  * opening. Later calls take no gap and no other part of the question: all that
@@ -51,11 +51,15 @@
  *   8, 9      2-26  points of a net of the first line, and of the second
  *   10        1     whether the search was stopped
  *   11        64    the gap, as the bits of a double
- *   12 to 22  none  0; kept for what is to come
- * Fewer words, a word beyond its bits, a width (8, 9) that isn't 2 to 26 or a
- * word without bits that isn't 0 are no state's. Every pattern of word 11 is a
- * gap, a NaN's too. A step and the loop write words 2 to 7 and 10; the others,
- * and words behind the last, are left alone. Own verdict and report write none.
+ *   12 to 14  none  kept for the nodes settled by box, by plane and by line
+ *   15, 16    none  kept for the edition and its joint length
+ *   17, 18    none  kept for whether each line is asked for a whole turn
+ *   19 to 22  none  kept for the asked lo and hi of the first line, the second
+ * Words 12 to 22 have no bits yet: the opening writes 0. Fewer words, a word
+ * beyond its bits, a width (8, 9) that isn't 2 to 26 or a word without bits
+ * that isn't 0 are no state's. Every pattern of word 11 is a gap, a NaN's too.
+ * A step and the loop write words 2 to 7 and 10; the others, and words behind
+ * the last, are left alone. Own verdict and report write none.
  *
  * The state and the lent memory (nets, ranges, depths, raw) belong together:
  * carry both on from call to call as the last one left them. Then each call

@@ -12,7 +12,8 @@ use Rattle.verdicts.specs.declared.Verdict.the-variants.{Settled, Split, Unsepa
 use Rattle.states.specs.declared.State.{State}
 
 -- ---- a state as 23 words: 0 to 7 pairs, quota, waiting, visits, splits, unspent, settled, given; 8, 9 the widths; 10 stopped; 11 the gap's bits;
--- 12 to 22 have no bits
+-- 12 to 22 have no bits: they are kept for the nodes settled by box, plane and line, for the edition and its joint length, for whether each line is asked
+-- for a whole turn, and for the asked ends
 
 abbrev pub flagOf : Bool → ℕ
 flagOf true = 1
