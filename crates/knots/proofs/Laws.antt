@@ -10,7 +10,7 @@ use lib.ListN.{length, getD, take, drop, set, take-append-drop}
 use lib.Seq.{take-suc-set, take-set-le, drop-set-lt, drop-cons, drop-drop, take-append-add, drop-append-add, length-take-le, getD-take}
 use lib.Ieee.{Float, nan}
 use Rattle.lists.proofs.Loops.{nothing-left}
-use Rattle.knots.specs.Knots.{repeated, flatKnots, boundsOf, inside, between}
+use Rattle.knots.specs.Knots.{repeated, flatKnots, boundsIn, inside, between}
 use Rattle.lists.specs.Parts.{patch}
 use Rattle.lists.specs.Tests.{total}
 use Rattle.points.specs.declared.Interval.{Interval}
@@ -86,8 +86,8 @@ at-start n i f l e h = sym (getD-take n f i nan h) ∙ ap (λ z. getD z i nan) e
 
 pub bounds-are : (degree : ℕ) (knots : List Float) (mults : List ℕ) (f : List Float) (n d : ℕ) → n ≡ total mults → d ≡ degree
     → take n f ≡ flatKnots knots mults → degree + 1 ≤ total mults
-    → _≡_ {A = Interval} (record { lo = getD f d nan; hi = getD f (n - d - 1) nan }) (boundsOf degree knots mults)
-unfolding boundsOf
+    → _≡_ {A = Interval} (record { lo = getD f d nan; hi = getD f (n - d - 1) nan }) (boundsIn degree knots mults)
+unfolding boundsIn
 bounds-are degree knots mults f n d en ed ef h =
     rw (ed, at-start n degree f (flatKnots knots mults) ef (omega arith), at-start n (n - degree - 1) f (flatKnots knots mults) ef (omega arith), en) refl
 

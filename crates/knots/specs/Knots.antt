@@ -6,6 +6,7 @@ use lib.ListN.{getD}
 use lib.Ieee.{Float, lt, nan}
 use Rattle.lists.specs.Tests.{total}
 use Rattle.points.specs.declared.Interval.{Interval}
+use Rattle.lines.specs.Lines.{Line}
 
 -- k, n times, before l
 unfoldable pub repeated : ℕ → Float → List Float → List Float
@@ -19,8 +20,8 @@ flatKnots [] ms = []
 flatKnots (k ∷ ks) [] = []
 
 -- `KnotVector::bounds`: flat knots number degree and number poles, counted from 0
-unfoldable pub boundsOf : ℕ → List Float → List ℕ → Interval
-boundsOf degree knots mults = record { lo = getD (flatKnots knots mults) degree nan; hi = getD (flatKnots knots mults) (total mults - degree - 1) nan }
+unfoldable pub boundsIn : ℕ → List Float → List ℕ → Interval
+boundsIn degree knots mults = record { lo = getD (flatKnots knots mults) degree nan; hi = getD (flatKnots knots mults) (total mults - degree - 1) nan }
 
 -- strictly between: the filter of `CurvePieces::new`
 unfoldable pub inside : Float → Float → Float → Bool
@@ -32,5 +33,15 @@ between lo hi [] l = l
 between lo hi (k ∷ ks) l = cond (inside lo hi k) (k ∷ between lo hi ks l) (between lo hi ks l)
 
 -- the breaks of `CurvePieces::new`: lo, each knot strictly between, hi
-abbrev pub breaksOf : Float → Float → List Float → List Float
-breaksOf lo hi knots = lo ∷ between lo hi knots (hi ∷ [])
+abbrev pub breaksIn : Float → Float → List Float → List Float
+breaksIn lo hi knots = lo ∷ between lo hi knots (hi ∷ [])
+
+-- ---- of a line
+abbrev pub flatOf : Line → List Float
+flatOf l = flatKnots (l .knots) (l .mults)
+
+abbrev pub boundsOf : Line → Interval
+boundsOf l = boundsIn (l .degree) (l .knots) (l .mults)
+
+abbrev pub breaksOf : Line → Float → Float → List Float
+breaksOf l lo hi = breaksIn lo hi (l .knots)

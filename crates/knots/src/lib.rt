@@ -6,7 +6,7 @@ ghost use Prim.Native.Nat.{_+_, _≤_};
 ghost use lib.ListN.{length, take, drop};
 ghost use Rattle.lists.specs.Parts.{patch};
 ghost use Rattle.lists.specs.Tests.{total};
-ghost use Rattle.knots.specs.Knots.{repeated, flatKnots, boundsOf, inside, breaksOf};
+ghost use Rattle.knots.specs.Knots.{repeated, flatKnots, boundsIn, inside, breaksIn};
 
 // Room for the flat knots of any admitted line: 128 poles and degree 25.
 pub fn flat_room() -> [f64; 154]
@@ -62,7 +62,7 @@ pub fn flat_knots(knots: &[f64], mults: &[u32], out: &mut [f64]) -> usize
 // The parameter range of a line.
 pub fn bounds(degree: u32, knots: &[f64], mults: &[u32]) -> points::Interval
     requires { ⌜ (length (now mults) ≡ length (now knots)) × (degree + 1 ≤ total (now mults)) × (total (now mults) ≤ 154) ⌝ }
-    ensures { λ r. ⌜ r ≡ boundsOf degree (now (knots .entry)) (now (mults .entry)) ⌝ }
+    ensures { λ r. ⌜ r ≡ boundsIn degree (now (knots .entry)) (now (mults .entry)) ⌝ }
 {
     let mut flat = flat_room();
     let n = flat_knots(knots, mults, &mut flat);
@@ -90,9 +90,9 @@ fn kept(lo: f64, hi: f64, k: f64) -> usize
 // lo, the knots strictly between, hi; answers how many these are. A knot that isn't kept is stored over by the next.
 pub fn breaks(knots: &[f64], lo: f64, hi: f64, out: &mut [f64]) -> usize
     requires { ⌜ length (now knots) + 2 ≤ length (now out) ⌝ }
-    ensures { λ r. ⌜ (r ≡ length (breaksOf lo hi (now (knots .entry))))
-        × (now (out .exit) ≡ patch (now (out .entry)) 0 (breaksOf lo hi (now (knots .entry))))
-        × (take r (now (out .exit)) ≡ breaksOf lo hi (now (knots .entry)))
+    ensures { λ r. ⌜ (r ≡ length (breaksIn lo hi (now (knots .entry))))
+        × (now (out .exit) ≡ patch (now (out .entry)) 0 (breaksIn lo hi (now (knots .entry))))
+        × (take r (now (out .exit)) ≡ breaksIn lo hi (now (knots .entry)))
         × (2 ≤ r)
         × (r ≤ length (now (knots .entry)) + 2) ⌝ }
 {

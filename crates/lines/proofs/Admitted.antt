@@ -14,6 +14,7 @@ use Rattle.lines.specs.declared.Admission.{Admission}
 use Rattle.lines.specs.declared.Admission.the-variants.{Admitted, InvalidDegree, KnotCount, KnotOutOfRange, KnotsNotIncreasing, MultiplicityTooLarge, ZeroMultiplicity, PoleCountMismatch, PoleCountOutOfRange, WeightCountMismatch, WeightOutOfRange, CoordinateOutOfRange}
 use Rattle.lines.specs.Admit.{degreeOut, knotCountOut, tooLarge, validateDirection, validatePoles, admitOf}
 use Rattle.lines.specs.Counts.{Counts}
+use Rattle.lines.specs.Lines.{Line}
 use Rattle.lines.proofs.Laws.{pass, refusal}
 
 -- ---- neither of two tests was met
@@ -45,10 +46,9 @@ few degree knots mults next e =
     (most, omega arith)
 
 -- ---- all the tests
-pub counts : (degree : ℕ) (knots : List Float) (mults : List ℕ) (coords weights : List Float) → admitOf degree knots mults coords weights ≡ Admitted
-    → Counts degree knots mults coords weights
+pub counts : (l : Line) → admitOf l ≡ Admitted → Counts l
 unfolding validateDirection validatePoles tooLarge
-counts degree knots mults coords weights e =
+counts l e =
     let a4 = pass _ InvalidDegree _ (refusal InvalidDegree 3 refl) e in
     let a5 = pass _ KnotCount _ (refusal KnotCount 4 refl) (a4 .1) in
     let a6 = pass _ KnotOutOfRange _ (refusal KnotOutOfRange 5 refl) (a5 .1) in

@@ -7,6 +7,7 @@ use lib.Dec.{ltb, leb, eqb}
 use lib.Ieee.{Float, binary64, lt, neg, ofBits}
 use Rattle.lists.specs.Tests.{every, eachTwo, total}
 use Rattle.floats.specs.Floats.{within}
+use Rattle.lines.specs.Lines.{Line}
 use Rattle.lines.specs.declared.Admission.{Admission}
 use Rattle.lines.specs.declared.Admission.the-variants.{Admitted, InvalidDegree, KnotCount, KnotOutOfRange, KnotsNotIncreasing, MultiplicityTooLarge, ZeroMultiplicity, PoleCountMismatch, PoleCountOutOfRange, WeightCountMismatch, WeightOutOfRange, CoordinateOutOfRange}
 
@@ -107,5 +108,5 @@ validatePoles degree mults coords weights =
     (cond (coordOut coords) CoordinateOutOfRange Admitted))))
 
 -- 4 to 14: `admit`
-abbrev pub admitOf : ℕ → List Float → List ℕ → List Float → List Float → Admission
-admitOf degree knots mults coords weights = validateDirection degree knots mults (validatePoles degree mults coords weights)
+abbrev pub admitOf : Line → Admission
+admitOf l = validateDirection (l .degree) (l .knots) (l .mults) (validatePoles (l .degree) (l .mults) (l .coords) (l .weights))

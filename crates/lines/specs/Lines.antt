@@ -11,6 +11,10 @@ pub record Line : Type 0 where
   pub coords : List Float
   pub weights : List Float
 
+-- a line by its parts, as the code takes them
+abbrev pub lineOf : ℕ → List Float → List ℕ → List Float → List Float → Line
+lineOf degree knots mults coords weights = record { degree = degree; knots = knots; mults = mults; coords = coords; weights = weights }
+
 -- a question about two lines: a range of each, the gap, and the splits per pair, S
 pub record Question : Type 0 where
   pub line1 : Line

@@ -8,6 +8,7 @@ ghost use lib.ListN.{length};
 ghost use Rattle.lists.specs.Tests.{every, eachTwo, total};
 ghost use Rattle.floats.specs.Floats.{within};
 ghost use Rattle.lines.specs.declared.Admission.the-variants.{Admitted};
+ghost use Rattle.lines.specs.Lines.{lineOf};
 ghost use Rattle.lines.specs.Admit.{admissionNumber, tooLarge, validateDirection, validatePoles, admitOf};
 
 // Why a line is refused, or that it isn't. `BSplineConstructionError` names five of the cases.
@@ -220,7 +221,7 @@ pub fn admit(
     coords: &[f64],
     weights: &[f64],
 ) -> Admission
-    ensures { λ r. ⌜ r ≡ admitOf degree (now (knots .entry)) (now (mults .entry)) (now (coords .entry)) (now (weights .entry)) ⌝ }
+    ensures { λ r. ⌜ r ≡ admitOf (lineOf degree (now (knots .entry)) (now (mults .entry)) (now (coords .entry)) (now (weights .entry))) ⌝ }
 {
     let direction = validate_direction(degree, knots, mults);
     let Admission::Admitted = direction else {

@@ -6,7 +6,7 @@ use native.Mathlib.Omega.{arith}
 use lib.ListN.{length, take, drop, set, length-set}
 use lib.Seq.{length-take-le}
 use borrow.Author.Needs.{needs}
-use Rattle.knots.specs.Knots.{between, breaksOf}
+use Rattle.knots.specs.Knots.{between, breaksIn}
 use Rattle.knots.proofs.Laws as laws
 use Rattle.knots.proofs.breaks.Statement.{statement}
 use Rattle.knots.proofs.breaks.Tie as tie
@@ -14,7 +14,7 @@ use Rattle.knots.proofs.breaks.Tie as tie
 abbrev Inv-loop : tie.InvT-loop
 Inv-loop knots lo hi out₀ n₀ i₀ out n i =
     (length out ≡ length out₀) × (length knots + 2 ≤ length out) × (i ≤ length knots) × (1 ≤ n) × (n ≤ i + 1) × (drop (n + 1) out ≡ drop (n + 1) out₀)
-    × (take n out ++ between lo hi (drop i knots) (hi ∷ []) ≡ breaksOf lo hi knots)
+    × (take n out ++ between lo hi (drop i knots) (hi ∷ []) ≡ breaksIn lo hi knots)
 
 abbrev μ-loop : tie.MeasureT-loop
 μ-loop knots lo hi out₀ n₀ i₀ out n i = length knots - i
