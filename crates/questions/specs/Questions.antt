@@ -8,7 +8,8 @@ use Rattle.lists.specs.Tests.{eachTwo}
 use Rattle.floats.specs.Floats.{zero64, within, middle}
 use Rattle.points.specs.declared.Interval.{Interval}
 use Rattle.lines.specs.Admit.{two24}
-use Rattle.knots.specs.Knots.{boundsOf, breaksOf}
+use Rattle.lines.specs.Lines.{Question}
+use Rattle.knots.specs.Knots.{breaksIn, boundsOf}
 use Rattle.questions.specs.declared.Asked.{Asked}
 use Rattle.questions.specs.declared.Asked.the-variants.{Fine, RangeOutOfBounds, GapOutOfRange, TooManySplits, BreaksTooClose}
 
@@ -43,10 +44,10 @@ askWithin bounds1 knots1 lo1 hi1 bounds2 knots2 lo2 hi2 gap splits =
     (cond (not (rangeFits bounds2 lo2 hi2)) (RangeOutOfBounds 2)
     (cond (not (within zero64 two24 gap)) GapOutOfRange
     (cond (ltb 256 splits) TooManySplits
-    (cond (not (eachTwo parted (breaksOf lo1 hi1 knots1))) (BreaksTooClose 1)
-    (cond (not (eachTwo parted (breaksOf lo2 hi2 knots2))) (BreaksTooClose 2) Fine)))))
+    (cond (not (eachTwo parted (breaksIn lo1 hi1 knots1))) (BreaksTooClose 1)
+    (cond (not (eachTwo parted (breaksIn lo2 hi2 knots2))) (BreaksTooClose 2) Fine)))))
 
--- `ask`: the question about two lines, each given by its degree, knots and multiplicities and the range asked of it
-abbrev pub askOf : ℕ → List Float → List ℕ → Float → Float → ℕ → List Float → List ℕ → Float → Float → Float → ℕ → Asked
-askOf degree1 knots1 mults1 lo1 hi1 degree2 knots2 mults2 lo2 hi2 gap splits =
-    askWithin (boundsOf degree1 knots1 mults1) knots1 lo1 hi1 (boundsOf degree2 knots2 mults2) knots2 lo2 hi2 gap splits
+-- 15 to 18: `ask`
+abbrev pub askOf : Question → Asked
+askOf q =
+    askWithin (boundsOf (q .line1)) (q .line1 .knots) (q .lo1) (q .hi1) (boundsOf (q .line2)) (q .line2 .knots) (q .lo2) (q .hi2) (q .gap) (q .splits)

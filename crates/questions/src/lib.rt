@@ -1,12 +1,10 @@
 // What is wrong with a question about two admitted lines: the table's numbers 15 to 18, in its order.
 ghost use mathlib.Core.Path.{_≡_};
-ghost use Prim.Native.Nat.{_≤_};
+ghost use Prim.Native.Nat.{_+_, _≤_};
 ghost use lib.ListN.{length};
-ghost use Rattle.lists.specs.Tests.{eachTwo};
-ghost use Rattle.lines.specs.declared.Admission.the-variants.{Admitted};
-ghost use Rattle.lines.specs.Admit.{admitOf};
-ghost use Rattle.knots.specs.Knots.{breaksOf};
-ghost use Rattle.questions.specs.Questions.{askedNumber, askedLine, rangeFits, parted, askWithin, askOf};
+ghost use Rattle.lists.specs.Tests.{eachTwo, total};
+ghost use Rattle.knots.specs.Knots.{boundsIn, breaksIn};
+ghost use Rattle.questions.specs.Questions.{askedNumber, askedLine, rangeFits, parted, askWithin};
 
 // Why a question is refused, or that it is fine. A number 1 or 2 is the line at fault.
 pub enum Asked {
@@ -85,7 +83,7 @@ fn all_parted(s: &[f64]) -> bool
 // Whether each two neighbouring breaks of the range lie far enough apart.
 fn breaks_fit(knots: &[f64], lo: f64, hi: f64) -> bool
     requires { ⌜ length (now knots) ≤ 128 ⌝ }
-    ensures { λ r. ⌜ r ≡ eachTwo parted (breaksOf lo hi (now (knots .entry))) ⌝ }
+    ensures { λ r. ⌜ r ≡ eachTwo parted (breaksIn lo hi (now (knots .entry))) ⌝ }
 {
     let mut b = knots::break_room();
     let n = knots::breaks(knots, lo, hi, &mut b);
@@ -129,29 +127,26 @@ fn ask_within(
     Asked::Fine
 }
 
-// Whether a question about two admitted lines is fine, and if not, the first fault in the table's order.
+// Whether a question about two lines is fine, and if not, the first fault in the table's order. An admitted line's multiplicities are as asked here.
 pub fn ask(
     degree1: u32,
     knots1: &[f64],
     mults1: &[u32],
-    coords1: &[f64],
-    weights1: &[f64],
     lo1: f64,
     hi1: f64,
     degree2: u32,
     knots2: &[f64],
     mults2: &[u32],
-    coords2: &[f64],
-    weights2: &[f64],
     lo2: f64,
     hi2: f64,
     gap: f64,
     splits: u32,
 ) -> Asked
-    requires { ⌜ admitOf degree1 (now knots1) (now mults1) (now coords1) (now weights1) ≡ Admitted ⌝ }
-    requires { ⌜ admitOf degree2 (now knots2) (now mults2) (now coords2) (now weights2) ≡ Admitted ⌝ }
+    requires { ⌜ (length (now mults1) ≡ length (now knots1)) × (degree1 + 1 ≤ total (now mults1)) × (total (now mults1) ≤ 154) × (length (now knots1) ≤ 128) ⌝ }
+    requires { ⌜ (length (now mults2) ≡ length (now knots2)) × (degree2 + 1 ≤ total (now mults2)) × (total (now mults2) ≤ 154) × (length (now knots2) ≤ 128) ⌝ }
     ensures { λ r. ⌜ r
-        ≡ askOf degree1 (now (knots1 .entry)) (now (mults1 .entry)) lo1 hi1 degree2 (now (knots2 .entry)) (now (mults2 .entry)) lo2 hi2 gap splits ⌝ }
+        ≡ askWithin (boundsIn degree1 (now (knots1 .entry)) (now (mults1 .entry))) (now (knots1 .entry)) lo1 hi1
+        (boundsIn degree2 (now (knots2 .entry)) (now (mults2 .entry))) (now (knots2 .entry)) lo2 hi2 gap splits ⌝ }
 {
     let bounds1 = knots::bounds(degree1, knots1, mults1);
     let bounds2 = knots::bounds(degree2, knots2, mults2);
