@@ -1,17 +1,18 @@
--- Laws of the nets' room and of the lists that the nets are made of. Assumes nothing.
+-- Laws of the nets' room, of the lists that the nets are made of, and of one piece among all. Assumes nothing.
 use mathlib.Core.Path.{_≡_, refl}
-use mathlib.Core.List.{List}
+use mathlib.Core.List.{List, _++_}
 use Prim.Native.Nat.{ℕ, _+_, _-_, _*_, _/_, _^_, _≤_, _<_}
 use native.Mathlib.Nat.{mul-le-mul}
 use native.Mathlib.Omega.{arith}
-use lib.ListN.{length, take}
-use lib.Ieee.{Float}
-use Rattle.lists.specs.Parts.{patch}
+use lib.ListN.{length, getD, take}
+use lib.Ieee.{Float, nan}
+use Rattle.lists.specs.Parts.{patch, block}
 use Rattle.lists.specs.Tests.{total}
-use Rattle.poles.specs.Poles.{homogeneousPoles}
-use Rattle.knots.specs.Knots.{flatKnots, breaksOf}
-use Rattle.pieces.specs.Pieces.{netsOf}
-use Rattle.curves.specs.Curves.{piecesOf}
+use Rattle.lines.specs.Lines.{Line}
+use Rattle.knots.specs.Knots.{flatOf, breaksOf}
+use Rattle.pieces.specs.Pieces.{netOf, netsOf}
+use Rattle.pieces.proofs.Lengths.{net-at}
+use Rattle.curves.specs.Curves.{polesOf, piecesOf}
 
 -- room for one piece fewer than there are breaks, at equal breaks
 pub room-of : {l l' : List Float} (k m : ℕ) → l ≡ l' → (length l' - 1) * k ≤ m → (length l - 1) * k ≤ m
@@ -31,10 +32,16 @@ pub need-small : (n w : ℕ) → n ≤ 129 → w ≤ 26 → n * (4 * w) < 2 ^ 64
 need-small n w h k = let g : 4 * w ≤ 104 = omega arith in let m = mul-le-mul h g in omega arith
 
 -- the nets of the poles in an array, as many as the flat knots say, are the line's pieces
-pub pieces-of : (degree : ℕ) (knots : List Float) (mults : List ℕ) (coords weights : List Float) (lo hi : Float) (h out : List Float)
-    → length coords / 3 + degree + 1 ≡ total mults → take (4 * (length coords / 3)) h ≡ homogeneousPoles coords weights (length coords / 3) 0
-    → patch out 0 (netsOf degree knots (flatKnots knots mults) (take (4 * (total mults - (degree + 1))) h) (breaksOf lo hi knots))
-    ≡ patch out 0 (piecesOf degree knots mults coords weights lo hi)
+pub pieces-of : (l : Line) (lo hi : Float) (h out : List Float)
+    → length (l .coords) / 3 + l .degree + 1 ≡ total (l .mults) → take (4 * (length (l .coords) / 3)) h ≡ polesOf l
+    → patch out 0 (netsOf (l .degree) (l .knots) (flatOf l) (take (4 * (total (l .mults) - (l .degree + 1))) h) (breaksOf l lo hi)) ≡ patch out 0 (piecesOf l lo hi)
 unfolding piecesOf
-pieces-of degree knots mults coords weights lo hi h out count e =
-    let n : total mults - (degree + 1) ≡ length coords / 3 = omega arith in nets-of knots (breaksOf lo hi knots) out refl refl (rw n e)
+pieces-of l lo hi h out count e =
+    let n : total (l .mults) - (l .degree + 1) ≡ length (l .coords) / 3 = omega arith in nets-of (l .knots) (breaksOf l lo hi) out refl refl (rw n e)
+
+-- piece i, read from the pieces with anything behind, is the net of breaks i and i + 1
+pub piece-at : (l : Line) (lo hi : Float) (rest : List Float) (i : ℕ) → i + 1 < length (breaksOf l lo hi)
+    → block (4 * (l .degree + 1)) i (piecesOf l lo hi ++ rest)
+    ≡ netOf (l .degree) (l .knots) (flatOf l) (polesOf l) (getD (breaksOf l lo hi) i nan) (getD (breaksOf l lo hi) (i + 1) nan)
+unfolding piecesOf
+piece-at l lo hi rest i h = net-at (l .degree) (l .knots) _ _ (breaksOf l lo hi) rest i h

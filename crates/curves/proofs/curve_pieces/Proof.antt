@@ -46,10 +46,11 @@ use denote.Triple.Clauses.{ensured, lasts}
 use Rattle.lists.specs.Parts.{patch}
 use Rattle.lists.specs.Tests.{total}
 use Rattle.lines.specs.declared.Admission.the-variants.{Admitted}
+use Rattle.lines.specs.Lines.{Line, lineOf}
 use Rattle.lines.specs.Admit.{admitOf}
 use Rattle.lines.specs.Counts.{Counts}
 use Rattle.lines.proofs.Admitted.{counts}
-use Rattle.knots.specs.Knots.{flatKnots, breaksOf}
+use Rattle.knots.specs.Knots.{flatOf, breaksOf}
 use Rattle.pieces.specs.Pieces.{netsOf}
 use Rattle.poles.specs.Poles.{homogeneousPoles}
 use Rattle.poles.specs.declared.Poles.{Poles}
@@ -103,7 +104,7 @@ module _ {M : Type 1} (𝓤 : URA M) (H : Heap 𝓤) (A : Atoms 𝓤) (mem : Mem
 module _ {M : Type 1} (𝓤 : URA M) (H : Heap 𝓤) (A : Atoms 𝓤) (W : Given 𝓤 H A) (mem : Memory → SProp 𝓤) (run : Routine → Fun 𝓤) (κk κm κa κb κo : Lft) (qk qm qa qb qo : Share) (degree : ℕ)
     (k : RefT (List Float)) (m : RefT (List ℕ)) (d : Poles) (lo hi : Float) (b o : ℕ) (γ : GName) (ys : List Float) (degree-is : Is u32 degree (vint w32 degree ∷ []))
     (lo-is : Is f64 lo (vfloat binary64 lo ∷ [])) (hi-is : Is f64 hi (vfloat binary64 hi ∷ []))
-    (ok : (admitOf degree (now k) (now m) (now (d .coords)) (now (d .weights)) ≡ Admitted) × (pieceCount lo hi (now k) * (4 * (degree + 1)) ≤ length ys)) where
+    (ok : (let l = lineOf degree (now k) (now m) (now (d .coords)) (now (d .weights)) in (admitOf l ≡ Admitted) × (pieceCount l lo hi * (4 * (degree + 1)) ≤ length ys))) where
   abbrev κs : Lfts 5
   κs = (κk, (κm, (κa, (κb, (κo, tt)))))
 
@@ -129,8 +130,11 @@ module _ {M : Type 1} (𝓤 : URA M) (H : Heap 𝓤) (A : Atoms 𝓤) (W : Given
   abbrev n : ℕ
   n = length (now (d .coords)) / 3
 
-  abbrev counted : Counts degree (now k) (now m) (now (d .coords)) (now (d .weights))
-  counted = counts degree (now k) (now m) (now (d .coords)) (now (d .weights)) (ok .0)
+  abbrev line : Line
+  line = lineOf degree (now k) (now m) (now (d .coords)) (now (d .weights))
+
+  abbrev counted : Counts line
+  counted = counts line (ok .0)
 
   abbrev Arg : Type 0
   Arg = ℕ × (RefT (List Float) × (RefT (List ℕ) × (Poles × (Float × (Float × (RefT (List Float) × Unit {0}))))))
@@ -196,7 +200,7 @@ module _ {M : Type 1} (𝓤 : URA M) (H : Heap 𝓤) (A : Atoms 𝓤) (W : Given
 
   -- the call of `with_poles`, with the array h and its machine value u
   abbrev nets : List Float → List Float
-  nets h = patch ys 0 (netsOf degree (now k) (flatKnots (now k) (now m)) (take (4 * (total (now m) - (degree + 1))) h) (breaksOf lo hi (now k)))
+  nets h = patch ys 0 (netsOf degree (now k) (flatOf line) (take (4 * (total (now m) - (degree + 1))) h) (breaksOf line lo hi))
 
   abbrev to-with : List Float → Val → With 𝓤 H A mem run .Ghost
   to-with h u = (
@@ -231,7 +235,7 @@ module _ {M : Type 1} (𝓤 : URA M) (H : Heap 𝓤) (A : Atoms 𝓤) (W : Given
           nothing ! $ move ! (2 ∷ 0 ∷ []) $ fjoin ! $ owned ! f64 (Is f64) (float-makes 𝓤 H A W binary64) hi _ hi-is $ fjoin ! $ owned ! f64 (Is f64) (float-makes 𝓤 H A W binary64) lo _ lo-is $ fjoin ! $
           move ! (3 ∷ 0 ∷ []) $ fjoin ! $ move ! (1 ∷ 0 ∷ []) $ fjoin ! $ move ! (1 ∷ 0 ∷ []) $ fjoin ! $ owned ! u32 (Is u32) (uint-makes 𝓤 H A W w32) degree _ degree-is $ fjoin ! $ done !
 
-  exits : (zs : List Float) → zs ≡ patch ys 0 (piecesOf degree (now k) (now m) (now (d .coords)) (now (d .weights)) lo hi) → length zs ≡ length ys
+  exits : (zs : List Float) → zs ≡ patch ys 0 (piecesOf line lo hi) → length zs ≡ length ys
       → ent 𝓤 (⋆ 𝓤 H A ((‵ (flft κk qk) ⊛ ‵ (flft κm qm) ⊛ ‵ (flft κo qo) ⊛ ‵ ftrue) ∷ ‵ (finally f64 γ zs) ∷ Stay ∷ (‵ (flft κa qa) ⊛ ‵ (flft κb qb) ⊛ ‵ ftrue) ∷ [])) (Post vunit)
   exits zs e l =
       qed W ((‵ (flft κk qk) ⊛ ‵ (flft κm qm) ⊛ ‵ (flft κo qo) ⊛ ‵ ftrue) ∷ ‵ (finally f64 γ zs) ∷ Stay ∷ (‵ (flft κa qa) ⊛ ‵ (flft κb qb) ⊛ ‵ ftrue) ∷ []) ∵
@@ -296,7 +300,7 @@ module _ {M : Type 1} (𝓤 : URA M) (H : Heap 𝓤) (A : Atoms 𝓤) (W : Given
         (18 ∷ 19 ∷ []) $ free1 ! $ move ! (16 ∷ 17 ∷ []) $ free1 ! $ move ! (14 ∷ 15 ∷ []) $ free1 ! $ move ! (12 ∷ 13 ∷ []) $ free1 ! $ move ! (10 ∷ 11 ∷ []) $ free1 ! $ move !
         (8 ∷ 9 ∷ []) $ free1 ! $ move ! (6 ∷ 7 ∷ []) $ free1 ! $ move ! (4 ∷ 5 ∷ []) $ free1 ! $ free0 ! $
         by ! (exits (ws .1 .1 .1 .1 .1 .1 .0)
-        (e′ ∙ pieces-of degree (now k) (now m) (now (d .coords)) (now (d .weights)) lo hi h ys (counted .count) (e .1)) l))))))))))))))))))))))))
+        (e′ ∙ pieces-of line lo hi h ys (counted .count) (e .1)) l))))))))))))))))))))))))
 
 module _ {M : Type 1} (𝓤 : URA M) (H : Heap 𝓤) (A : Atoms 𝓤) (W : Given 𝓤 H A) (mem : Memory → SProp 𝓤) (run : Routine → Fun 𝓤) where
   curve-pieces-walks : (C : Calls 𝓤 H) (Λ : Loops 𝓤 H) → FmC 𝓤 H (W .laws) C → Triple 𝓤 (C #poles·Poles·homogeneous-poles) (All 𝓤 H A mem run) → Triple 𝓤 (C #curves·with-poles) (With 𝓤 H A mem run)

@@ -44,6 +44,7 @@ use denote.Exit.{yes}
 use denote.Triple.Clauses.{ensured, lasts}
 use Rattle.lists.specs.Parts.{patch}
 use Rattle.lines.specs.declared.Admission.the-variants.{Admitted}
+use Rattle.lines.specs.Lines.{lineOf}
 use Rattle.lines.specs.Admit.{admitOf}
 use Rattle.poles.specs.declared.Poles.{Poles}
 use Rattle.poles.proofs.Poles as T
@@ -94,7 +95,7 @@ module _ {M : Type 1} (𝓤 : URA M) (H : Heap 𝓤) (A : Atoms 𝓤) (mem : Mem
 module _ {M : Type 1} (𝓤 : URA M) (H : Heap 𝓤) (A : Atoms 𝓤) (W : Given 𝓤 H A) (mem : Memory → SProp 𝓤) (run : Routine → Fun 𝓤) (κk κm κc κw κo : Lft) (qk qm qc qw qo : Share) (degree : ℕ)
     (k : RefT (List Float)) (m : RefT (List ℕ)) (c w : RefT (List Float)) (lo hi : Float) (b o : ℕ) (γ : GName) (ys : List Float) (degree-is : Is u32 degree (vint w32 degree ∷ []))
     (lo-is : Is f64 lo (vfloat binary64 lo ∷ [])) (hi-is : Is f64 hi (vfloat binary64 hi ∷ []))
-    (ok : (admitOf degree (now k) (now m) (now c) (now w) ≡ Admitted) × (pieceCount lo hi (now k) * (4 * (degree + 1)) ≤ length ys)) where
+    (ok : (let l = lineOf degree (now k) (now m) (now c) (now w) in (admitOf l ≡ Admitted) × (pieceCount l lo hi * (4 * (degree + 1)) ≤ length ys))) where
   abbrev κs : Lfts 5
   κs = (κk, (κm, (κc, (κw, (κo, tt)))))
 
@@ -194,7 +195,7 @@ module _ {M : Type 1} (𝓤 : URA M) (H : Heap 𝓤) (A : Atoms 𝓤) (W : Given
       move ! (5 ∷ 0 ∷ []) $ use2 W (raw (OfView 𝓤 H A mem run .pre to)) asked $ frame ! $ move ! (3 ∷ 2 ∷ 1 ∷ 0 ∷ []) $ done !
 
   abbrev pieces : List Float
-  pieces = patch ys 0 (piecesOf degree (now k) (now m) (now c) (now w) lo hi)
+  pieces = patch ys 0 (piecesOf (lineOf degree (now k) (now m) (now c) (now w)) lo hi)
 
   exits : (zs : List Float) → zs ≡ pieces → length zs ≡ length ys → ent 𝓤 (⋆ 𝓤 H A (Tok ∷ ‵ (finally f64 γ zs) ∷ Stay ∷ [])) (Post vunit)
   exits zs e l =
