@@ -13,9 +13,9 @@ use Rattle.floats.specs.Floats.{within}
 use Rattle.floats.specs.Sizes.{Within}
 use Rattle.lines.specs.declared.Admission.{Admission}
 use Rattle.lines.specs.declared.Admission.the-variants.{Admitted, InvalidDegree, KnotCount, KnotOutOfRange, KnotsNotIncreasing, MultiplicityTooLarge, ZeroMultiplicity, PoleCountMismatch, PoleCountOutOfRange, WeightCountMismatch, WeightOutOfRange, CoordinateOutOfRange}
-use Rattle.lines.specs.Admit.{admissionNumber, two20, two24, two10, one1024th, inner, degreeOut, knotCountOut, knotOut, notIncreasing, tooLarge, zeroMult, poleMismatch, poleCountOut, weightMismatch, weightOut, coordOut, validateDirection, validatePoles}
+use Rattle.lines.specs.Admit.{admissionNumber, two20, two24, two10, one1024th, inner, degreeOut, knotCountOut, knotOut, notIncreasing, tooLarge, zeroMult, poleMismatch, poleCountOut, weightMismatch, weightOut, coordOut, validateDirection, validatePoles, admitOf}
 use Rattle.lines.specs.Lines.{Line}
-use Rattle.facts.specs.Faults.{WithinFactor, poles, Fault4, Fault5, Fault6, Fault7, Fault8, Fault9, Fault10, Fault11, Fault12, Fault13, Fault14, LineFault, FirstLineFault, admission}
+use Rattle.facts.specs.Faults.{WithinFactor, poles, Fault4, Fault5, Fault6, Fault7, Fault8, Fault9, Fault10, Fault11, Fault12, Fault13, Fault14, LineFault, FirstLineFault}
 use Rattle.facts.proofs.Reflect.{Tests, of-T, of-lt, of-eq, of-or, of-or3, of-not, of-neither, of-over, of-any, of-two, same}
 use Rattle.facts.proofs.Sizes.{of-within20, of-within24, of-weight}
 use Rattle.facts.proofs.Rows.{firstRow, Met, InOrder, first-met, met-first, none-met, met-none, Apart, row, of-row}
@@ -46,7 +46,7 @@ rows l =
     (12, weightMismatch (l .coords) (l .weights))
     ∷ (13, weightOut (l .weights)) ∷ (14, coordOut (l .coords)) ∷ []
 
-number : (l : Line) → admissionNumber (admission l) ≡ firstRow 0 (rows l)
+number : (l : Line) → admissionNumber (admitOf l) ≡ firstRow 0 (rows l)
 unfolding rows validateDirection validatePoles
 number l =
     eleven (degreeOut (l .degree)) (knotCountOut (l .knots) (l .mults)) (knotOut (l .knots)) (notIncreasing (l .knots))
@@ -157,18 +157,18 @@ module _ (l : Line) where
   transitive a b c h g = omega arith
 
   -- ---- the theorem, for a refusal
-  pub refused : (n : ℕ) → 0 < n → admissionNumber (admission l) ≡ n → FirstLineFault n l
+  pub refused : (n : ℕ) → 0 < n → admissionNumber (admitOf l) ≡ n → FirstLineFault n l
   refused n h e =
       let m = first-met _<_ irreflexive transitive 0 (rows l) n in-order (λ z. omega arith) (sym (number l) ∙ e) in
       (of-met n (m .0), λ k lt f. m .1 k lt (met k f))
 
-  pub refuses : (n : ℕ) → FirstLineFault n l → admissionNumber (admission l) ≡ n
+  pub refuses : (n : ℕ) → FirstLineFault n l → admissionNumber (admitOf l) ≡ n
   refuses n f = number l ∙ met-first _<_ irreflexive transitive 0 (rows l) n in-order (met n (f .0)) (λ k lt m. f .1 k lt (of-met k m))
 
   -- ---- and for an admitted line
-  pub admitted : admission l ≡ Admitted → (n : ℕ) → LineFault n l → ⊥
+  pub admitted : admitOf l ≡ Admitted → (n : ℕ) → LineFault n l → ⊥
   admitted e n f =
       none-met _<_ irreflexive transitive 0 (rows l) apart (sym (number l) ∙ ap admissionNumber e) n (met n f)
 
-  pub admits : ((n : ℕ) → LineFault n l → ⊥) → admission l ≡ Admitted
-  admits h = zero-admitted (admission l) (number l ∙ met-none _<_ irreflexive transitive 0 (rows l) (λ k m. h k (of-met k m)))
+  pub admits : ((n : ℕ) → LineFault n l → ⊥) → admitOf l ≡ Admitted
+  admits h = zero-admitted (admitOf l) (number l ∙ met-none _<_ irreflexive transitive 0 (rows l) (λ k m. h k (of-met k m)))

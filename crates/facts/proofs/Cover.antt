@@ -3,7 +3,7 @@ use mathlib.Core.Path.{_≡_, refl, ap, _∙_}
 use mathlib.Core.Logic.{inl, inr}
 use mathlib.Core.Bool.{Bool, true, false, cond, _||_}
 use mathlib.Core.List.{List, [], _∷_, _++_}
-use Prim.Native.Nat.{ℕ, zero, suc, _+_, _*_, _-_, _/_, _≤_, _<_, _^_}
+use Prim.Native.Nat.{ℕ, zero, suc, _+_, _*_, _-_, _≤_, _<_, _^_}
 use native.Mathlib.Omega.{arith}
 use lib.Dec.{T}
 use lib.ListN.{length, getD}
@@ -11,22 +11,18 @@ use lib.Ieee.{Float, nan, le, lt, eq, neg}
 use Rattle.floats.specs.Stations.{InRange, Piece, Cut, piecesFrom, endFrom}
 use Rattle.lists.specs.Members.{Any, All}
 use Rattle.lists.specs.Tests.{every, total}
-use Rattle.lists.specs.Parts.{block}
 use Rattle.floats.specs.Floats.{within}
 use Rattle.floats.specs.Sizes.{Within}
 use Rattle.floats.proofs.Order.{le-total, right-number, le-trans-float}
 use Rattle.lines.specs.declared.Admission.the-variants.{Admitted}
-use Rattle.lines.specs.Admit.{two20}
+use Rattle.lines.specs.Admit.{two20, admitOf}
 use Rattle.lines.proofs.Admitted.{counts}
-use Rattle.poles.specs.Poles.{homogeneousPoles}
-use Rattle.knots.specs.Knots.{repeated, flatKnots, boundsOf, inside, between, breaksOf}
+use Rattle.knots.specs.Knots.{repeated, flatKnots, boundsIn, inside, between, boundsOf, breaksOf}
 use Rattle.pieces.specs.Pieces.{netOf, netsOf}
-use Rattle.pieces.proofs.Lengths.{length-net, length-nets, net-at}
-use Rattle.curves.specs.Curves.{pieceCount, piecesOf}
+use Rattle.pieces.proofs.Lengths.{length-net, length-nets}
+use Rattle.curves.specs.Curves.{pieceCount, piecesOf, cutsFrom, cutsOf, netsIn}
 use Rattle.questions.specs.Questions.{rangeFits}
 use Rattle.lines.specs.Lines.{Line}
-use Rattle.facts.specs.Faults.{admission, bounds}
-use Rattle.facts.specs.Cover.{cutsFrom, cutsOf, netsIn}
 use Rattle.facts.proofs.Reflect.{is-true, as-true, both}
 use Rattle.facts.proofs.Sizes.{of-within20}
 
@@ -128,14 +124,14 @@ lt-le x y h = go (lt x y) (eq x y) h
     go false b u = absurd u
 
 module _ (degree : ℕ) (knots : List Float) (mults : List ℕ) (lo hi : Float) (lm : length mults ≡ length knots) (room : degree + 1 ≤ total mults)
-    (six : every (within (neg two20) two20) knots ≡ true) (fifteen : rangeFits (boundsOf degree knots mults) lo hi ≡ true) where
+    (six : every (within (neg two20) two20) knots ≡ true) (fifteen : rangeFits (boundsIn degree knots mults) lo hi ≡ true) where
   flat-fits : (i : ℕ) → i < total mults → Fits (getD (flatKnots knots mults) i nan)
   flat-fits i h =
       fits-of _ (every-at (within (neg two20) two20) (flatKnots knots mults) i (let l = length-flat knots mults lm in omega arith)
       (every-flat (within (neg two20) two20) knots mults six))
 
   range : T (lt lo hi) × T (le (getD (flatKnots knots mults) degree nan) lo) × T (le hi (getD (flatKnots knots mults) (total mults - degree - 1) nan))
-  unfolding rangeFits boundsOf
+  unfolding rangeFits boundsIn
   range =
       let h = both (lt lo hi) _ fifteen in
       let g = both (le (getD (flatKnots knots mults) degree nan) lo) _ (h .1) in
@@ -186,22 +182,22 @@ module _ (degree : ℕ) (knots : List Float) (mults : List ℕ) (lo hi : Float) 
   covered flat poles s h = chained degree knots flat poles lo hi lo knots s six h
 
 -- ---- of an admitted line and a range that fits
-module _ (l : Line) (lo hi : Float) (ok : admission l ≡ Admitted) (fits : rangeFits (bounds l) lo hi ≡ true) where
+module _ (l : Line) (lo hi : Float) (ok : admitOf l ≡ Admitted) (fits : rangeFits (boundsOf l) lo hi ≡ true) where
   -- each double of the range lies in some piece's range
   pub pieces-cover : (s : Float) → InRange lo hi s → Any (λ (p : Piece). InRange (p .lo) (p .hi) s) (piecesFrom lo (cutsOf l lo hi))
   pieces-cover =
-      let k = counts (l .degree) (l .knots) (l .mults) (l .coords) (l .weights) ok in
+      let k = counts l ok in
       covered (l .degree) (l .knots) (l .mults) lo hi (k .as-many) (omega (arith, k .count)) (k .knots-fit) fits _ _
 
   -- each break is finite and within ±2^20, each net has four numbers a point
   pub pieces-fine : Within (2 ^ 20) lo × All (λ (c : Cut). Within (2 ^ 20) (c .to) × (length (c .net) ≡ 4 * (l .degree + 1))) (cutsOf l lo hi)
   pieces-fine =
-      let k = counts (l .degree) (l .knots) (l .mults) (l .coords) (l .weights) ok in
+      let k = counts l ok in
       fine (l .degree) (l .knots) (l .mults) lo hi (k .as-many) (omega (arith, k .count)) (k .knots-fit) fits _ _
 
   pub range-fine : Within (2 ^ 20) lo × Within (2 ^ 20) hi
   range-fine =
-      let k = counts (l .degree) (l .knots) (l .mults) (l .coords) (l .weights) ok in
+      let k = counts l ok in
       let room : l .degree + 1 ≤ total (l .mults) = omega (arith, k .count) in (
         fits-within lo (lo-fits (l .degree) (l .knots) (l .mults) lo hi (k .as-many) room (k .knots-fit) fits),
         fits-within hi (hi-fits (l .degree) (l .knots) (l .mults) lo hi (k .as-many) room (k .knots-fit) fits),
@@ -214,22 +210,14 @@ module _ (l : Line) (lo hi : Float) where
   pieces-end = end-is (l .degree) (l .knots) _ _ lo hi lo (l .knots)
 
   -- one piece fewer than breaks
-  pub pieces-count : length (cutsOf l lo hi) ≡ pieceCount lo hi (l .knots)
+  pub pieces-count : length (cutsOf l lo hi) ≡ pieceCount l lo hi
   pieces-count = length-cuts (l .degree) (l .knots) _ _ lo (between lo hi (l .knots) (hi ∷ []))
 
   -- what `curve_pieces` writes is the nets of these, one after the other, and so many numbers
-  pub pieces-written : piecesOf (l .degree) (l .knots) (l .mults) (l .coords) (l .weights) lo hi ≡ netsIn (cutsOf l lo hi)
+  pub pieces-written : piecesOf l lo hi ≡ netsIn (cutsOf l lo hi)
   unfolding piecesOf
   pieces-written = nets-are (l .degree) (l .knots) _ _ lo (between lo hi (l .knots) (hi ∷ []))
 
-  pub pieces-length : length (piecesOf (l .degree) (l .knots) (l .mults) (l .coords) (l .weights) lo hi) ≡ pieceCount lo hi (l .knots) * (4 * (l .degree + 1))
+  pub pieces-length : length (piecesOf l lo hi) ≡ pieceCount l lo hi * (4 * (l .degree + 1))
   unfolding piecesOf
-  pieces-length = length-nets (l .degree) (l .knots) _ _ (breaksOf lo hi (l .knots))
-
-  -- piece i, read from them with anything behind, is the net of breaks i and i + 1
-  pub piece-at : (rest : List Float) (i : ℕ) → i + 1 < length (breaksOf lo hi (l .knots))
-      → block (4 * (l .degree + 1)) i (piecesOf (l .degree) (l .knots) (l .mults) (l .coords) (l .weights) lo hi ++ rest)
-      ≡ netOf (l .degree) (l .knots) (flatKnots (l .knots) (l .mults)) (homogeneousPoles (l .coords) (l .weights) (length (l .coords) / 3) 0)
-      (getD (breaksOf lo hi (l .knots)) i nan) (getD (breaksOf lo hi (l .knots)) (i + 1) nan)
-  unfolding piecesOf
-  piece-at rest i h = net-at (l .degree) (l .knots) _ _ (breaksOf lo hi (l .knots)) rest i h
+  pieces-length = length-nets (l .degree) (l .knots) _ _ (breaksOf l lo hi)

@@ -10,13 +10,13 @@ use lib.Ieee.{Float, lt, le}
 use Rattle.lists.specs.Tests.{eachTwo}
 use Rattle.floats.specs.Floats.{zero64, within, middle}
 use Rattle.lines.specs.declared.Admission.the-variants.{Admitted}
-use Rattle.lines.specs.Admit.{two24}
-use Rattle.knots.specs.Knots.{breaksOf}
+use Rattle.lines.specs.Admit.{two24, admitOf}
+use Rattle.knots.specs.Knots.{boundsOf, breaksOf}
 use Rattle.questions.specs.declared.Asked.{Asked}
 use Rattle.questions.specs.declared.Asked.the-variants.{Fine, RangeOutOfBounds, GapOutOfRange, TooManySplits, BreaksTooClose}
-use Rattle.questions.specs.Questions.{askedNumber, askedLine, rangeFits, parted, askWithin}
+use Rattle.questions.specs.Questions.{askedNumber, askedLine, rangeFits, parted, askWithin, askOf}
 use Rattle.lines.specs.Lines.{Line, Question}
-use Rattle.facts.specs.Faults.{admission, bounds, Fault15, Fault16, Fault18, QuestionFault, Earlier, asked, askedPlace, FirstQuestionFault}
+use Rattle.facts.specs.Faults.{Fault15, Fault16, Fault18, QuestionFault, Earlier, askedPlace, FirstQuestionFault}
 use Rattle.facts.proofs.Reflect.{Tests, of-T, of-lt, of-not, of-both, of-two, same}
 use Rattle.facts.proofs.Sizes.{of-gap, within-finite}
 use Rattle.facts.proofs.Cover.{range-fine}
@@ -40,42 +40,42 @@ six false false false false false false = refl
 
 rows : Question → List ((ℕ × ℕ) × Bool)
 rows q =
-    ((15, 1), not (rangeFits (bounds (q .line1)) (q .lo1) (q .hi1))) ∷ ((15, 2), not (rangeFits (bounds (q .line2)) (q .lo2) (q .hi2)))
+    ((15, 1), not (rangeFits (boundsOf (q .line1)) (q .lo1) (q .hi1))) ∷ ((15, 2), not (rangeFits (boundsOf (q .line2)) (q .lo2) (q .hi2)))
     ∷ ((16, 0), not (within zero64 two24 (q .gap))) ∷ ((17, 0), ltb 256 (q .splits))
-    ∷ ((18, 1), not (eachTwo parted (breaksOf (q .lo1) (q .hi1) (q .line1 .knots)))) ∷ ((18, 2), not (eachTwo parted (breaksOf (q .lo2) (q .hi2) (q .line2 .knots)))) ∷ []
+    ∷ ((18, 1), not (eachTwo parted (breaksOf (q .line1) (q .lo1) (q .hi1)))) ∷ ((18, 2), not (eachTwo parted (breaksOf (q .line2) (q .lo2) (q .hi2)))) ∷ []
 
 number : (q : Question) → askedPlace q ≡ firstRow (0, 0) (rows q)
 unfolding rows askWithin
 number q =
-    six (not (rangeFits (bounds (q .line1)) (q .lo1) (q .hi1))) (not (rangeFits (bounds (q .line2)) (q .lo2) (q .hi2)))
+    six (not (rangeFits (boundsOf (q .line1)) (q .lo1) (q .hi1))) (not (rangeFits (boundsOf (q .line2)) (q .lo2) (q .hi2)))
     (not (within zero64 two24 (q .gap))) (ltb 256 (q .splits))
-    (not (eachTwo parted (breaksOf (q .lo1) (q .hi1) (q .line1 .knots)))) (not (eachTwo parted (breaksOf (q .lo2) (q .hi2) (q .line2 .knots))))
+    (not (eachTwo parted (breaksOf (q .line1) (q .lo1) (q .hi1)))) (not (eachTwo parted (breaksOf (q .line2) (q .lo2) (q .hi2))))
 
 -- ---- each test decides its row's sentence
 decide : (b : Bool) → T b ⊎ (T b → ⊥)
 decide true = inl tt
 decide false = inr (λ x. x)
 
-test15 : (l : Line) (lo hi : Float) → admission l ≡ Admitted → Tests (Fault15 l lo hi) (not (rangeFits (bounds l) lo hi))
+test15 : (l : Line) (lo hi : Float) → admitOf l ≡ Admitted → Tests (Fault15 l lo hi) (not (rangeFits (boundsOf l) lo hi))
 unfolding rangeFits
-test15 l lo hi ok = same to from (of-not (rangeFits (bounds l) lo hi) inside)
+test15 l lo hi ok = same to from (of-not (rangeFits (boundsOf l) lo hi) inside)
   where
-    inside : Tests (T (lt lo hi) × (T (le (bounds l .lo) lo) × T (le hi (bounds l .hi)))) (rangeFits (bounds l) lo hi)
+    inside : Tests (T (lt lo hi) × (T (le (boundsOf l .lo) lo) × T (le hi (boundsOf l .hi)))) (rangeFits (boundsOf l) lo hi)
     inside =
-        of-both (lt lo hi) (cond (le (bounds l .lo) lo) (le hi (bounds l .hi)) false) (of-T (lt lo hi))
-        (of-both (le (bounds l .lo) lo) (le hi (bounds l .hi)) (of-T (le (bounds l .lo) lo)) (of-T (le hi (bounds l .hi))))
+        of-both (lt lo hi) (cond (le (boundsOf l .lo) lo) (le hi (boundsOf l .hi)) false) (of-T (lt lo hi))
+        (of-both (le (boundsOf l .lo) lo) (le hi (boundsOf l .hi)) (of-T (le (boundsOf l .lo) lo)) (of-T (le hi (boundsOf l .hi))))
 
-    to : (T (lt lo hi) × (T (le (bounds l .lo) lo) × T (le hi (bounds l .hi))) → ⊥) → Fault15 l lo hi
+    to : (T (lt lo hi) × (T (le (boundsOf l .lo) lo) × T (le hi (boundsOf l .hi))) → ⊥) → Fault15 l lo hi
     to h =
         elim (decide (lt lo hi)) [
-          | inl x ↦ elim (decide (le (bounds l .lo) lo)) [
-            | inl y ↦ elim (decide (le hi (bounds l .hi))) [ inl z ↦ absurd (h (x, (y, z))) | inr n ↦ inr (inr (inr (inr n))) ]
+          | inl x ↦ elim (decide (le (boundsOf l .lo) lo)) [
+            | inl y ↦ elim (decide (le hi (boundsOf l .hi))) [ inl z ↦ absurd (h (x, (y, z))) | inr n ↦ inr (inr (inr (inr n))) ]
             | inr n ↦ inr (inr (inr (inl n)))
           ]
           | inr n ↦ inr (inr (inl n))
         ]
 
-    from : Fault15 l lo hi → T (lt lo hi) × (T (le (bounds l .lo) lo) × T (le hi (bounds l .hi))) → ⊥
+    from : Fault15 l lo hi → T (lt lo hi) × (T (le (boundsOf l .lo) lo) × T (le hi (boundsOf l .hi))) → ⊥
     from (inl n) t = n (within-finite (2 ^ 20) lo (range-fine l lo hi ok (inside .holds t) .0))
     from (inr (inl n)) t = n (within-finite (2 ^ 20) hi (range-fine l lo hi ok (inside .holds t) .1))
     from (inr (inr (inl n))) t = n (t .0)
@@ -85,13 +85,13 @@ test15 l lo hi ok = same to from (of-not (rangeFits (bounds l) lo hi) inside)
 test16 : (gap : Float) → Tests (Fault16 gap) (not (within zero64 two24 gap))
 test16 gap = of-not (within zero64 two24 gap) (of-gap gap)
 
-test18 : (l : Line) (lo hi : Float) → Tests (Fault18 l lo hi) (not (eachTwo parted (breaksOf lo hi (l .knots))))
+test18 : (l : Line) (lo hi : Float) → Tests (Fault18 l lo hi) (not (eachTwo parted (breaksOf l lo hi)))
 unfolding parted
 test18 l lo hi =
     of-two (λ t0 t1. T (lt t0 (middle t0 t1)) × T (lt (middle t0 t1) t1) → ⊥) parted
     (λ t0 t1. of-not (parted t0 t1)
     (of-both (lt t0 (middle t0 t1)) (lt (middle t0 t1) t1) (of-T (lt t0 (middle t0 t1))) (of-T (lt (middle t0 t1) t1))))
-    (breaksOf lo hi (l .knots))
+    (breaksOf l lo hi)
 
 -- ---- the order of the places
 irreflexive : (k : ℕ × ℕ) → Earlier k k → ⊥
@@ -128,7 +128,7 @@ fine-place GapOutOfRange e = let z : _≡_ {A = ℕ} 16 0 = ap (λ p. p .0) e in
 fine-place TooManySplits e = let z : _≡_ {A = ℕ} 17 0 = ap (λ p. p .0) e in absurd (omega arith)
 fine-place (BreaksTooClose i) e = let z : _≡_ {A = ℕ} 18 0 = ap (λ p. p .0) e in absurd (omega arith)
 
-module _ (q : Question) (ok1 : admission (q .line1) ≡ Admitted) (ok2 : admission (q .line2) ≡ Admitted) where
+module _ (q : Question) (ok1 : admitOf (q .line1) ≡ Admitted) (ok2 : admitOf (q .line2) ≡ Admitted) where
   met : (n : ℕ × ℕ) → QuestionFault n q → Met n (rows q)
   unfolding rows
   met n =
@@ -153,8 +153,8 @@ module _ (q : Question) (ok1 : admission (q .line1) ≡ Admitted) (ok2 : admissi
   refuses n f = number q ∙ met-first Earlier irreflexive transitive (0, 0) (rows q) n (in-order q) (met n (f .0)) (λ k lt m. f .1 k lt (of-met k m))
 
   -- ---- and for a question that is fine
-  pub passes : asked q ≡ Fine → (n : ℕ × ℕ) → QuestionFault n q → ⊥
+  pub passes : askOf q ≡ Fine → (n : ℕ × ℕ) → QuestionFault n q → ⊥
   passes e n f = none-met Earlier irreflexive transitive (0, 0) (rows q) (apart q) (sym (number q) ∙ ap (λ a. (askedNumber a, askedLine a)) e) n (met n f)
 
-  pub passed : ((n : ℕ × ℕ) → QuestionFault n q → ⊥) → asked q ≡ Fine
-  passed h = fine-place (asked q) (number q ∙ met-none Earlier irreflexive transitive (0, 0) (rows q) (λ k m. h k (of-met k m)))
+  pub passed : ((n : ℕ × ℕ) → QuestionFault n q → ⊥) → askOf q ≡ Fine
+  passed h = fine-place (askOf q) (number q ∙ met-none Earlier irreflexive transitive (0, 0) (rows q) (λ k m. h k (of-met k m)))

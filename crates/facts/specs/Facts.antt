@@ -10,42 +10,41 @@ use Rattle.lists.specs.Tests.{eachTwo}
 use Rattle.floats.specs.Stations.{InRange, Piece, piecesFrom}
 use Rattle.lines.specs.Lines.{Line, Question}
 use Rattle.lines.specs.declared.Admission.the-variants.{Admitted}
-use Rattle.lines.specs.Admit.{admissionNumber}
+use Rattle.lines.specs.Admit.{admissionNumber, admitOf}
 use Rattle.questions.specs.declared.Asked.the-variants.{Fine}
-use Rattle.knots.specs.Knots.{breaksOf}
-use Rattle.questions.specs.Questions.{rangeFits, parted}
-use Rattle.curves.specs.Curves.{piecesOf}
-use Rattle.facts.specs.Faults.{poles, admission, LineFault, FirstLineFault, asked, askedPlace, bounds, QuestionFault, FirstQuestionFault}
-use Rattle.facts.specs.Cover.{cutsOf, netsIn}
+use Rattle.knots.specs.Knots.{boundsOf, breaksOf}
+use Rattle.questions.specs.Questions.{rangeFits, parted, askOf}
+use Rattle.curves.specs.Curves.{piecesOf, cutsOf, netsIn}
+use Rattle.facts.specs.Faults.{poles, LineFault, FirstLineFault, askedPlace, QuestionFault, FirstQuestionFault}
 use Rattle.facts.specs.Spans.{AllTwo, InSpan, spanNumber, InOneSpan}
 
 -- "When, and only then", numbers 4 to 14: a line gets a number exactly if that row is the first that it meets, and is admitted exactly if it meets none.
 abbrev pub LineTable : Type 0
 LineTable = (l : Line) →
-    ((n : ℕ) → 0 < n → (admissionNumber (admission l) ≡ n) ↔ FirstLineFault n l)
-    × ((admission l ≡ Admitted) ↔ ((n : ℕ) → LineFault n l → ⊥))
+    ((n : ℕ) → 0 < n → (admissionNumber (admitOf l) ≡ n) ↔ FirstLineFault n l)
+    × ((admitOf l ≡ Admitted) ↔ ((n : ℕ) → LineFault n l → ⊥))
 
 -- The same of a question about two admitted lines, numbers 15 to 18, each with the line at fault.
 abbrev pub QuestionTable : Type 0
-QuestionTable = (q : Question) → admission (q .line1) ≡ Admitted → admission (q .line2) ≡ Admitted →
+QuestionTable = (q : Question) → admitOf (q .line1) ≡ Admitted → admitOf (q .line2) ≡ Admitted →
     ((n : ℕ × ℕ) → 0 < n .0 → (askedPlace q ≡ n) ↔ FirstQuestionFault n q)
-    × ((asked q ≡ Fine) ↔ ((n : ℕ × ℕ) → QuestionFault n q → ⊥))
+    × ((askOf q ≡ Fine) ↔ ((n : ℕ × ℕ) → QuestionFault n q → ⊥))
 
 -- Each double of a range that passes 15 lies in the range of some piece.
 abbrev pub PiecesCover : Type 0
-PiecesCover = (l : Line) (lo hi : Float) → admission l ≡ Admitted → rangeFits (bounds l) lo hi ≡ true
+PiecesCover = (l : Line) (lo hi : Float) → admitOf l ≡ Admitted → rangeFits (boundsOf l) lo hi ≡ true
     → (s : Float) → InRange lo hi s → Any (λ (p : Piece). InRange (p .lo) (p .hi) s) (piecesFrom lo (cutsOf l lo hi))
 
 -- What is written for a line are the nets of these pieces, one after the other.
 abbrev pub PiecesWritten : Type 0
-PiecesWritten = (l : Line) (lo hi : Float) → piecesOf (l .degree) (l .knots) (l .mults) (l .coords) (l .weights) lo hi ≡ netsIn (cutsOf l lo hi)
+PiecesWritten = (l : Line) (lo hi : Float) → piecesOf l lo hi ≡ netsIn (cutsOf l lo hi)
 
 -- From an admitted line's lower bound on and below its upper one, u lies in the span that is found for it and in no other; it is one of those from number degree to number poles − 1.
 abbrev pub SpanHolds : Type 0
-SpanHolds = (l : Line) (u : Float) → admission l ≡ Admitted → T (le (bounds l .lo) u) → T (lt u (bounds l .hi))
+SpanHolds = (l : Line) (u : Float) → admitOf l ≡ Admitted → T (le (boundsOf l .lo) u) → T (lt u (boundsOf l .hi))
     → InSpan l u (spanNumber l u) × ((s : ℕ) → InSpan l u s → s ≡ spanNumber l u) × (l .degree ≤ spanNumber l u) × (spanNumber l u < poles l)
 
 -- A net belongs to its stretch: each two neighbouring breaks of a range that passes 15, if they pass 18, lie in one span, and the net between them is made of that span.
 abbrev pub BreaksInSpans : Type 0
-BreaksInSpans = (l : Line) (lo hi : Float) → admission l ≡ Admitted → rangeFits (bounds l) lo hi ≡ true
-    → eachTwo parted (breaksOf lo hi (l .knots)) ≡ true → AllTwo (InOneSpan l) (breaksOf lo hi (l .knots))
+BreaksInSpans = (l : Line) (lo hi : Float) → admitOf l ≡ Admitted → rangeFits (boundsOf l) lo hi ≡ true
+    → eachTwo parted (breaksOf l lo hi) ≡ true → AllTwo (InOneSpan l) (breaksOf l lo hi)

@@ -11,12 +11,9 @@ use Rattle.lists.specs.Members.{Any}
 use Rattle.lists.specs.Tests.{total}
 use Rattle.floats.specs.Floats.{middle}
 use Rattle.floats.specs.Sizes.{Within}
-use Rattle.points.specs.declared.Interval.{Interval}
-use Rattle.lines.specs.declared.Admission.{Admission}
 use Rattle.lines.specs.Lines.{Line, Question}
-use Rattle.lines.specs.Admit.{inner, admitOf}
+use Rattle.lines.specs.Admit.{inner}
 use Rattle.knots.specs.Knots.{boundsOf, breaksOf}
-use Rattle.questions.specs.declared.Asked.{Asked}
 use Rattle.questions.specs.Questions.{askedNumber, askedLine, askOf}
 
 -- some two neighbours are related
@@ -99,21 +96,14 @@ LineFault n l =
     ((4 ≡ n) × Fault4 l) ⊎ (((5 ≡ n) × Fault5 l) ⊎ (((6 ≡ n) × Fault6 l) ⊎ (((7 ≡ n) × Fault7 l) ⊎ (((8 ≡ n) × Fault8 l) ⊎ (((9 ≡ n) × Fault9 l)
     ⊎ (((10 ≡ n) × Fault10 l) ⊎ (((11 ≡ n) × Fault11 l) ⊎ (((12 ≡ n) × Fault12 l) ⊎ (((13 ≡ n) × Fault13 l) ⊎ ((14 ≡ n) × Fault14 l))))))))))
 
--- what `admit` answers
-abbrev pub admission : Line → Admission
-admission l = admitOf (l .degree) (l .knots) (l .mults) (l .coords) (l .weights)
-
 -- the first row that the line meets has number n
 abbrev pub FirstLineFault : ℕ → Line → Type 0
 FirstLineFault n l = LineFault n l × ((k : ℕ) → k < n → LineFault k l → ⊥)
 
-abbrev pub bounds : Line → Interval
-bounds l = boundsOf (l .degree) (l .knots) (l .mults)
-
 -- 15: a range isn't finite, lo ≥ hi (a NaN is no number below another), or it leaves the line's bounds
 abbrev pub Fault15 : Line → Float → Float → Type 0
 Fault15 l lo hi =
-    (Finite lo → ⊥) ⊎ ((Finite hi → ⊥) ⊎ ((T (lt lo hi) → ⊥) ⊎ ((T (le (bounds l .lo) lo) → ⊥) ⊎ (T (le hi (bounds l .hi)) → ⊥))))
+    (Finite lo → ⊥) ⊎ ((Finite hi → ⊥) ⊎ ((T (lt lo hi) → ⊥) ⊎ ((T (le (boundsOf l .lo) lo) → ⊥) ⊎ (T (le hi (boundsOf l .hi)) → ⊥))))
 
 -- 16: the gap isn't from 0 to 2^24
 abbrev pub Fault16 : Float → Type 0
@@ -125,7 +115,7 @@ Fault17 splits = 256 < splits
 
 -- 18: two neighbouring breaks t0, t1 lack t0 < 0.5 × (t0 + t1) < t1
 abbrev pub Fault18 : Line → Float → Float → Type 0
-Fault18 l lo hi = AnyTwo (λ t0 t1. T (lt t0 (middle t0 t1)) × T (lt (middle t0 t1) t1) → ⊥) (breaksOf lo hi (l .knots))
+Fault18 l lo hi = AnyTwo (λ t0 t1. T (lt t0 (middle t0 t1)) × T (lt (middle t0 t1) t1) → ⊥) (breaksOf l lo hi)
 
 -- the question meets the row of this number and line (0 where it is no line's)
 abbrev pub QuestionFault : ℕ × ℕ → Question → Type 0
@@ -138,14 +128,9 @@ QuestionFault n q =
 abbrev pub Earlier : ℕ × ℕ → ℕ × ℕ → Type 0
 Earlier m n = (m .0 < n .0) ⊎ ((m .0 ≡ n .0) × (m .1 < n .1))
 
--- what `ask` answers
-abbrev pub asked : Question → Asked
-asked q =
-    askOf (q .line1 .degree) (q .line1 .knots) (q .line1 .mults) (q .lo1) (q .hi1)
-    (q .line2 .degree) (q .line2 .knots) (q .line2 .mults) (q .lo2) (q .hi2) (q .gap) (q .splits)
-
+-- the number that `ask` answers, and the line
 abbrev pub askedPlace : Question → ℕ × ℕ
-askedPlace q = (askedNumber (asked q), askedLine (asked q))
+askedPlace q = (askedNumber (askOf q), askedLine (askOf q))
 
 -- the first row that the question meets is this one
 abbrev pub FirstQuestionFault : ℕ × ℕ → Question → Type 0

@@ -1,4 +1,3 @@
 pub mod Faults
-pub mod Cover
 pub mod Spans
 pub mod Facts

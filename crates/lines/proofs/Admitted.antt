@@ -2,13 +2,14 @@
 use mathlib.Core.Path.{_≡_, refl, subst}
 use mathlib.Core.Bool.{Bool, true, false, _||_}
 use mathlib.Core.List.{List, [], _∷_}
-use Prim.Native.Nat.{ℕ, _≤_}
+use Prim.Native.Nat.{ℕ, _+_, _≤_}
 use native.Mathlib.Omega.{arith}
 use borrow.Author.Tests.{ltb-false, eqb-true, not-false}
 use denote.Enum.Declared.{tagOf}
 use types.Run.{OneOf, miss}
 use lib.ListN.{length}
 use lib.Ieee.{Float}
+use Rattle.lists.specs.Tests.{total}
 use Rattle.lines.proofs.Admission as declared
 use Rattle.lines.specs.declared.Admission.{Admission}
 use Rattle.lines.specs.declared.Admission.the-variants.{Admitted, InvalidDegree, KnotCount, KnotOutOfRange, KnotsNotIncreasing, MultiplicityTooLarge, ZeroMultiplicity, PoleCountMismatch, PoleCountOutOfRange, WeightCountMismatch, WeightOutOfRange, CoordinateOutOfRange}
@@ -87,3 +88,8 @@ counts l e =
       weights-fit = not-false _ (a13 .0);
       coords-fit = not-false _ (a14 .0);
     }
+
+-- ---- the lengths that bounds and breaks ask for
+pub lengths : (l : Line) → admitOf l ≡ Admitted
+    → (length (l .mults) ≡ length (l .knots)) × (l .degree + 1 ≤ total (l .mults)) × (total (l .mults) ≤ 154) × (length (l .knots) ≤ 128)
+lengths l e = let k = counts l e in (k .as-many, omega (arith, k .count), omega (arith, k .count, k .few-poles, k .most), k .few-knots)

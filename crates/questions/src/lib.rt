@@ -127,7 +127,8 @@ fn ask_within(
     Asked::Fine
 }
 
-// Whether a question about two lines is fine, and if not, the first fault in the table's order. An admitted line's multiplicities are as asked here.
+// Whether a question about two lines is fine, and if not, the first fault in the table's order. What it asks of their lengths,
+// admission gives.
 pub fn ask(
     degree1: u32,
     knots1: &[f64],
