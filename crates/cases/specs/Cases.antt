@@ -94,7 +94,7 @@ pub data Case : Type 0 where
 -- it comes out as it says
 abbrev pub Holds : Case → Type 0
 Holds (root x r) = (toBits binary64 (rootOf (ofBits binary64 x)) ≡ r)
-Holds (pieces l lo hi nets) = (piecesOf (l .degree) (l .knots) (l .mults) (l .coords) (l .weights) lo hi ≡ nets)
+Holds (pieces l lo hi nets) = (piecesOf l lo hi ≡ nets)
 Holds (testing q n) = (askedPlace q ≡ n)
 Holds (searching q a) = (search q ≡ a)
 

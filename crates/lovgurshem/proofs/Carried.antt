@@ -11,7 +11,8 @@ use Rattle.machine.specs.Machine.{limit}
 use Rattle.verdicts.specs.declared.Verdict.{Verdict}
 use Rattle.verdicts.specs.declared.Verdict.the-variants.{Settled, Split, Unseparated}
 use Rattle.lines.specs.Lines.{Question}
-use Rattle.facts.specs.Faults.{admission, asked}
+use Rattle.lines.specs.Admit.{admitOf}
+use Rattle.questions.specs.Questions.{askOf}
 use Rattle.states.specs.declared.State.{State}
 use Rattle.states.specs.States.{Memory, sizes, needed, enough, depthAt, isSearch, over}
 use Rattle.nodes.specs.Geometry.{Geometry}
@@ -94,7 +95,7 @@ gapOpen NoOpenRoom g = g
 
 open-gap : (q : Question) (p1 p2 : List Float) (u : Memory) → gapOpen (openDef q p1 p2 u .answer) (q .gap) ≡ q .gap
 open-gap q p1 p2 u =
-    go (isAdmitted (admission (q .line1))) (isAdmitted (admission (q .line2))) (isFine (asked q)) (piecesFit q p1 p2)
+    go (isAdmitted (admitOf (q .line1))) (isAdmitted (admitOf (q .line2))) (isFine (askOf q)) (piecesFit q p1 p2)
     (pushed (enough (needed (searchState (searchFor q) (start (searchFor q)))) (sizes u)) _)
   where
     pushed : (b : Bool) (m : Memory)
@@ -105,8 +106,8 @@ open-gap q p1 p2 u =
 
     go : (a b c d : Bool) → gapOpen (openPieces q p1 p2 u .answer) (q .gap) ≡ q .gap
         → gapOpen (cond {A = Opening} a (cond b
-        (cond c (cond d (openPieces q p1 p2 u) (opening NoOpenRoom p1 p2 u)) (opening (BadQuestion (asked q)) p1 p2 u))
-        (opening (BadLine 2 (admission (q .line2))) p1 p2 u)) (opening (BadLine 1 (admission (q .line1))) p1 p2 u) .answer) (q .gap) ≡ q .gap
+        (cond c (cond d (openPieces q p1 p2 u) (opening NoOpenRoom p1 p2 u)) (opening (BadQuestion (askOf q)) p1 p2 u))
+        (opening (BadLine 2 (admitOf (q .line2))) p1 p2 u)) (opening (BadLine 1 (admitOf (q .line1))) p1 p2 u) .answer) (q .gap) ≡ q .gap
     go true true true true o = o
     go true true true false o = refl
     go true true false d o = refl

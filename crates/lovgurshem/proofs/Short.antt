@@ -11,14 +11,13 @@ use lib.ListN.{length}
 use lib.Ieee.{Float}
 use Rattle.lines.specs.declared.Admission.{Admission}
 use Rattle.lines.specs.declared.Admission.the-variants.{Admitted, InvalidDegree, KnotCount, KnotOutOfRange, KnotsNotIncreasing, MultiplicityTooLarge, ZeroMultiplicity, PoleCountMismatch, PoleCountOutOfRange, WeightCountMismatch, WeightOutOfRange, CoordinateOutOfRange}
-use Rattle.lines.specs.Admit.{admissionNumber}
+use Rattle.lines.specs.Admit.{admissionNumber, admitOf}
 use Rattle.lines.specs.Lines.{Question}
 use Rattle.knots.specs.Knots.{inside, between}
 use Rattle.curves.specs.Curves.{pieceCount}
 use Rattle.questions.specs.declared.Asked.{Asked as AskAnswer}
 use Rattle.questions.specs.declared.Asked.the-variants.{Fine, RangeOutOfBounds, GapOutOfRange, TooManySplits, BreaksTooClose}
-use Rattle.questions.specs.Questions.{askedNumber}
-use Rattle.facts.specs.Faults.{admission, asked}
+use Rattle.questions.specs.Questions.{askedNumber, askOf}
 use Rattle.states.specs.States.{Memory, memory}
 use Rattle.opening.specs.declared.Opened.the-variants.{BadLine, BadQuestion, NoRoom}
 use Rattle.opening.specs.Opens.{openedNumber, isAdmitted, isFine, piecesNeed, piecesFit, Opening, opening, openPieces, openDef}
@@ -39,7 +38,7 @@ some-between lo hi (k ∷ ks) l h = go (inside lo hi k) (some-between lo hi ks l
 none-fit : (q : Question) (p : List Float) → piecesFit q [] p ≡ false
 none-fit q p =
     let n = some-between (q .lo1) (q .hi1) (q .line1 .knots) (q .hi1 ∷ []) (lit≤ tt) in
-    let a : 1 ≤ pieceCount (q .lo1) (q .hi1) (q .line1 .knots) = omega (arith, n) in
+    let a : 1 ≤ pieceCount (q .line1) (q .lo1) (q .hi1) = omega (arith, n) in
     let b : 4 ≤ 4 * (q .line1 .degree + 1) = omega arith in
     let c : 0 < piecesNeed (q .line1) (q .lo1) (q .hi1) = let m = mul-le-mul a b in omega (arith, m) in
     rw (lt-leb _ _ c) refl
@@ -70,12 +69,12 @@ bad-question (BreaksTooClose line) e = (lit≤ tt, lit≤ tt)
 module _ (q : Question) where
   abbrev tested : Bool → Bool → Bool → Bool → List Float → List Float → Memory → Opening
   tested a b c d p1 p2 u =
-      cond {A = Opening} a (cond b (cond c (cond d (openPieces q p1 p2 u) (opening NoRoom p1 p2 u)) (opening (BadQuestion (asked q)) p1 p2 u))
-      (opening (BadLine 2 (admission (q .line2))) p1 p2 u)) (opening (BadLine 1 (admission (q .line1))) p1 p2 u)
+      cond {A = Opening} a (cond b (cond c (cond d (openPieces q p1 p2 u) (opening NoRoom p1 p2 u)) (opening (BadQuestion (askOf q)) p1 p2 u))
+      (opening (BadLine 2 (admitOf (q .line2))) p1 p2 u)) (opening (BadLine 1 (admitOf (q .line1))) p1 p2 u)
 
   lent-nothing : (p1 p2 : List Float) (u : Memory) → refusalOf q ≡ cond (passes q) 19 (openAnswer (openDef q p1 p2 u .answer))
   lent-nothing p1 p2 u =
-      go (isAdmitted (admission (q .line1))) (isAdmitted (admission (q .line2))) (isFine (asked q)) (piecesFit q [] []) (piecesFit q p1 p2) (none-fit q [])
+      go (isAdmitted (admitOf (q .line1))) (isAdmitted (admitOf (q .line2))) (isFine (askOf q)) (piecesFit q [] []) (piecesFit q p1 p2) (none-fit q [])
     where
       go : (a b c d e : Bool) → d ≡ false
           → openAnswer (tested a b c d [] [] (memory [] [] [] [] []) .answer) ≡ cond (a && (b && c)) 19 (openAnswer (tested a b c e p1 p2 u .answer))
@@ -88,12 +87,12 @@ module _ (q : Question) where
   fault-number : (p1 p2 : List Float) (u : Memory) → passes q ≡ false
       → (4 ≤ openedNumber (openDef q p1 p2 u .answer)) × (openedNumber (openDef q p1 p2 u .answer) ≤ 18)
   fault-number p1 p2 u =
-      go (isAdmitted (admission (q .line1))) (isAdmitted (admission (q .line2))) (isFine (asked q)) (piecesFit q p1 p2)
-      (bad-line (admission (q .line1))) (bad-line (admission (q .line2))) (bad-question (asked q))
+      go (isAdmitted (admitOf (q .line1))) (isAdmitted (admitOf (q .line2))) (isFine (askOf q)) (piecesFit q p1 p2)
+      (bad-line (admitOf (q .line1))) (bad-line (admitOf (q .line2))) (bad-question (askOf q))
     where
-      go : (a b c d : Bool) → (a ≡ false → (4 ≤ admissionNumber (admission (q .line1))) × (admissionNumber (admission (q .line1)) ≤ 18))
-          → (b ≡ false → (4 ≤ admissionNumber (admission (q .line2))) × (admissionNumber (admission (q .line2)) ≤ 18))
-          → (c ≡ false → (4 ≤ askedNumber (asked q)) × (askedNumber (asked q) ≤ 18)) → (a && (b && c)) ≡ false
+      go : (a b c d : Bool) → (a ≡ false → (4 ≤ admissionNumber (admitOf (q .line1))) × (admissionNumber (admitOf (q .line1)) ≤ 18))
+          → (b ≡ false → (4 ≤ admissionNumber (admitOf (q .line2))) × (admissionNumber (admitOf (q .line2)) ≤ 18))
+          → (c ≡ false → (4 ≤ askedNumber (askOf q)) × (askedNumber (askOf q) ≤ 18)) → (a && (b && c)) ≡ false
           → (4 ≤ openedNumber (tested a b c d p1 p2 u .answer)) × (openedNumber (tested a b c d p1 p2 u .answer) ≤ 18)
       go true true true d f g h e = absurd (false≢true (sym e))
       go true true false d f g h e = h refl

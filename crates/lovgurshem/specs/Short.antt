@@ -6,7 +6,8 @@ use Prim.Native.Nat.{ℕ, _≤_, _<_}
 use lib.ListN.{length}
 use lib.Ieee.{Float}
 use Rattle.lines.specs.Lines.{Question}
-use Rattle.facts.specs.Faults.{admission, asked}
+use Rattle.lines.specs.Admit.{admitOf}
+use Rattle.questions.specs.Questions.{askOf}
 use Rattle.states.specs.States.{Memory}
 use Rattle.opening.specs.Opens.{isAdmitted, isFine, openedNumber, openDef}
 use Rattle.lovgurshem.specs.Answers.{openAnswer}
@@ -14,7 +15,7 @@ use Rattle.lovgurshem.specs.Calls.{openCall, callOpen}
 
 -- both lines and the question pass 4 to 18
 abbrev pub passes : Question → Bool
-passes q = isAdmitted (admission (q .line1)) && (isAdmitted (admission (q .line2)) && isFine (asked q))
+passes q = isAdmitted (admitOf (q .line1)) && (isAdmitted (admitOf (q .line2)) && isFine (askOf q))
 
 -- 19 where they pass, and else the number, from 4 to 18, that enough words would get; all slices are as they were
 abbrev pub ShortState : Type 0

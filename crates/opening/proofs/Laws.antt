@@ -16,12 +16,11 @@ use Rattle.lines.specs.declared.Admission.the-variants.{Admitted, InvalidDegree
 use Rattle.questions.specs.declared.Asked.{Asked as AskAnswer}
 use Rattle.questions.specs.declared.Asked.the-variants.{RangeOutOfBounds, GapOutOfRange, TooManySplits}
 use Rattle.floats.specs.Floats.{zero64, within}
-use Rattle.lines.specs.Admit.{two24}
-use Rattle.questions.specs.Questions.{rangeFits, askWithin}
-use Rattle.knots.specs.Knots.{breaksOf}
+use Rattle.lines.specs.Admit.{two24, admitOf}
+use Rattle.questions.specs.Questions.{rangeFits, askWithin, askOf}
+use Rattle.knots.specs.Knots.{boundsOf, breaksOf}
 use Rattle.curves.specs.Curves.{pieceCount}
 use Rattle.lines.specs.Lines.{Question}
-use Rattle.facts.specs.Faults.{admission, asked, bounds}
 use Rattle.pairs.specs.Nodes.{HasPieces}
 use Rattle.pairs.specs.Pairs.{Pieces, pieces, pairsFrom, nets1Of, nets2Of, rangesOf, depthsOf}
 use Rattle.states.specs.declared.State.{State}
@@ -85,8 +84,8 @@ module _ (q : Question) (p1 p2 : List Float) (u : Memory) where
         stopped = false;
       }
 
-  pub push-is : pushPairs (q .splits) (q .gap) (one q p1 p2) (other q p1 p2) (pieceCount (q .lo1) (q .hi1) (q .line1 .knots))
-      (pieceCount (q .lo2) (q .hi2) (q .line2 .knots)) u ≡ pushDef (searchFor q) u
+  pub push-is : pushPairs (q .splits) (q .gap) (one q p1 p2) (other q p1 p2) (pieceCount (q .line1) (q .lo1) (q .hi1))
+      (pieceCount (q .line2) (q .lo2) (q .hi2)) u ≡ pushDef (searchFor q) u
   push-is =
       let m = memory-is q p1 p2 u _ _ _ _ refl refl refl refl in
       λ i. cond (enough (needed (fresh-state i)) (sizes u)) (pushing (Open (fresh-state i)) (m i)) (pushing NoRoom u)
@@ -94,34 +93,34 @@ module _ (q : Question) (p1 p2 : List Float) (u : Memory) where
   -- the pieces written, then the pairs pushed
   pub pieces-opened : (r : Opened) (a b : List Float) (m : Memory) → a ≡ piecesIn (q .line1) (q .lo1) (q .hi1) p1 → b ≡ piecesIn (q .line2) (q .lo2) (q .hi2) p2
       → pushing r m
-      ≡ pushPairs (q .splits) (q .gap) (pieces (q .line1 .degree + 1) a (breaksOf (q .lo1) (q .hi1) (q .line1 .knots)))
-      (pieces (q .line2 .degree + 1) b (breaksOf (q .lo2) (q .hi2) (q .line2 .knots)))
-      (pieceCount (q .lo1) (q .hi1) (q .line1 .knots)) (pieceCount (q .lo2) (q .hi2) (q .line2 .knots)) u
+      ≡ pushPairs (q .splits) (q .gap) (pieces (q .line1 .degree + 1) a (breaksOf (q .line1) (q .lo1) (q .hi1)))
+      (pieces (q .line2 .degree + 1) b (breaksOf (q .line2) (q .lo2) (q .hi2)))
+      (pieceCount (q .line1) (q .lo1) (q .hi1)) (pieceCount (q .line2) (q .lo2) (q .hi2)) u
       → opening r a b m ≡ openPieces q p1 p2 u
   pieces-opened r a b m ea eb e =
       let f = e
-      ∙ (λ i. pushPairs (q .splits) (q .gap) (pieces (q .line1 .degree + 1) (ea i) (breaksOf (q .lo1) (q .hi1) (q .line1 .knots)))
-      (pieces (q .line2 .degree + 1) (eb i) (breaksOf (q .lo2) (q .hi2) (q .line2 .knots)))
-      (pieceCount (q .lo1) (q .hi1) (q .line1 .knots)) (pieceCount (q .lo2) (q .hi2) (q .line2 .knots)) u) ∙ push-is in
+      ∙ (λ i. pushPairs (q .splits) (q .gap) (pieces (q .line1 .degree + 1) (ea i) (breaksOf (q .line1) (q .lo1) (q .hi1)))
+      (pieces (q .line2 .degree + 1) (eb i) (breaksOf (q .line2) (q .lo2) (q .hi2)))
+      (pieceCount (q .line1) (q .lo1) (q .hi1)) (pieceCount (q .line2) (q .lo2) (q .hi2)) u) ∙ push-is in
       λ i. opening (f i .answer) (ea i) (eb i) (f i .memory)
 
   -- ---- the tests, one a return
-  pub bad-first : isAdmitted (admission (q .line1)) ≡ false → opening (BadLine 1 (admission (q .line1))) p1 p2 u ≡ openDef q p1 p2 u
+  pub bad-first : isAdmitted (admitOf (q .line1)) ≡ false → opening (BadLine 1 (admitOf (q .line1))) p1 p2 u ≡ openDef q p1 p2 u
   bad-first e = rw e refl
 
-  pub bad-second : isAdmitted (admission (q .line1)) ≡ true → isAdmitted (admission (q .line2)) ≡ false
-      → opening (BadLine 2 (admission (q .line2))) p1 p2 u ≡ openDef q p1 p2 u
+  pub bad-second : isAdmitted (admitOf (q .line1)) ≡ true → isAdmitted (admitOf (q .line2)) ≡ false
+      → opening (BadLine 2 (admitOf (q .line2))) p1 p2 u ≡ openDef q p1 p2 u
   bad-second e f = rw (e, f) refl
 
-  pub bad-question : isAdmitted (admission (q .line1)) ≡ true → isAdmitted (admission (q .line2)) ≡ true → isFine (asked q) ≡ false
-      → opening (BadQuestion (asked q)) p1 p2 u ≡ openDef q p1 p2 u
+  pub bad-question : isAdmitted (admitOf (q .line1)) ≡ true → isAdmitted (admitOf (q .line2)) ≡ true → isFine (askOf q) ≡ false
+      → opening (BadQuestion (askOf q)) p1 p2 u ≡ openDef q p1 p2 u
   bad-question e f g = rw (e, f, g) refl
 
-  pub no-room : isAdmitted (admission (q .line1)) ≡ true → isAdmitted (admission (q .line2)) ≡ true → isFine (asked q) ≡ true
+  pub no-room : isAdmitted (admitOf (q .line1)) ≡ true → isAdmitted (admitOf (q .line2)) ≡ true → isFine (askOf q) ≡ true
       → piecesFit q p1 p2 ≡ false → opening NoRoom p1 p2 u ≡ openDef q p1 p2 u
   no-room e f g h = rw (e, f, g, h) refl
 
-  pub opened-is : isAdmitted (admission (q .line1)) ≡ true → isAdmitted (admission (q .line2)) ≡ true → isFine (asked q) ≡ true → piecesFit q p1 p2 ≡ true
+  pub opened-is : isAdmitted (admitOf (q .line1)) ≡ true → isAdmitted (admitOf (q .line2)) ≡ true → isFine (askOf q) ≡ true → piecesFit q p1 p2 ≡ true
       → (r : Opening) → r ≡ openPieces q p1 p2 u → r ≡ openDef q p1 p2 u
   opened-is e f g h r k = k ∙ rw (e, f, g, h) refl
 
@@ -161,11 +160,11 @@ passed true a c h e = absurd (false≢true (sym h ∙ e))
 passed false a c h e = (refl, e)
 
 -- a fine question has at most 256 splits a pair
-pub few-splits : (q : Question) → isFine (asked q) ≡ true → q .splits ≤ 256
+pub few-splits : (q : Question) → isFine (askOf q) ≡ true → q .splits ≤ 256
 unfolding askWithin
 few-splits q e =
-    let a = passed (not (rangeFits (bounds (q .line1)) (q .lo1) (q .hi1))) (RangeOutOfBounds 1) _ refl e in
-    let b = passed (not (rangeFits (bounds (q .line2)) (q .lo2) (q .hi2))) (RangeOutOfBounds 2) _ refl (a .1) in
+    let a = passed (not (rangeFits (boundsOf (q .line1)) (q .lo1) (q .hi1))) (RangeOutOfBounds 1) _ refl e in
+    let b = passed (not (rangeFits (boundsOf (q .line2)) (q .lo2) (q .hi2))) (RangeOutOfBounds 2) _ refl (a .1) in
     let c = passed (not (within zero64 two24 (q .gap))) GapOutOfRange _ refl (b .1) in
     let d = passed (ltb 256 (q .splits)) TooManySplits _ refl (c .1) in
     ltb-false 256 (q .splits) (d .0)

@@ -2,7 +2,7 @@
 use mathlib.Core.Path.{_≡_, refl, sym, ap, _∙_}
 use mathlib.Core.Bool.{Bool, true, false, cond}
 use mathlib.Core.List.{List, [], _∷_, _++_, map}
-use Prim.Native.Nat.{ℕ, zero, suc, _+_, _-_, _/_, _<_}
+use Prim.Native.Nat.{ℕ, zero, suc, _+_, _-_, _<_}
 use native.Mathlib.Numerals.{add-one}
 use native.Mathlib.Omega.{arith}
 use lib.ListN.{length, getD, drop}
@@ -10,13 +10,11 @@ use lib.Ieee.{Float, nan}
 use Rattle.lists.specs.Parts.{patch, joined}
 use Rattle.floats.specs.Stations.{Piece, piecesFrom}
 use Rattle.boxes.specs.Boxes.{boxesApart}
-use Rattle.poles.specs.Poles.{homogeneousPoles}
-use Rattle.knots.specs.Knots.{flatKnots, between, breaksOf}
+use Rattle.knots.specs.Knots.{between, flatOf, breaksOf}
 use Rattle.pieces.specs.Pieces.{netOf}
-use Rattle.curves.specs.Curves.{pieceCount, piecesOf}
+use Rattle.curves.specs.Curves.{pieceCount, polesOf, piecesOf, cutsFrom, cutsOf}
+use Rattle.curves.proofs.Laws.{piece-at}
 use Rattle.lines.specs.Lines.{Line, Question}
-use Rattle.facts.specs.Cover.{cutsFrom, cutsOf}
-use Rattle.facts.proofs.Cover.{piece-at}
 use Rattle.pairs.specs.Pairs.{Pair, Pieces, pieces, netAt, boxAt, rowFrom, pairsFrom, nets1Of, nets2Of, rangesOf, depthsOf}
 use Rattle.machine.specs.Machine.{Node, atPieces, row, pushed}
 use Rattle.states.specs.States.{Memory, memory}
@@ -52,16 +50,16 @@ chained p knots flat poles t (t1 ∷ ts) =
 
 -- ---- one line's pieces, read from the slice that holds them
 abbrev pub linePieces : Line → Float → Float → List Float → Pieces
-linePieces l lo hi p = pieces (l .degree + 1) (piecesIn l lo hi p) (breaksOf lo hi (l .knots))
+linePieces l lo hi p = pieces (l .degree + 1) (piecesIn l lo hi p) (breaksOf l lo hi)
 
 abbrev slotPiece : Pieces → ℕ → Piece
 slotPiece p i = record { lo = getD (p .breaks) i nan; hi = getD (p .breaks) (suc i) nan; net = netAt p i }
 
-line-pieces : (l : Line) (lo hi : Float) (p : List Float) → piecesFrom lo (cutsOf l lo hi) ≡ indexed (slotPiece (linePieces l lo hi p)) (pieceCount lo hi (l .knots)) 0
+line-pieces : (l : Line) (lo hi : Float) (p : List Float) → piecesFrom lo (cutsOf l lo hi) ≡ indexed (slotPiece (linePieces l lo hi p)) (pieceCount l lo hi) 0
 line-pieces l lo hi p =
     let ts = between lo hi (l .knots) (hi ∷ []) in
-    let flat = flatKnots (l .knots) (l .mults) in
-    let poles = homogeneousPoles (l .coords) (l .weights) (length (l .coords) / 3) 0 in
+    let flat = flatOf l in
+    let poles = polesOf l in
     let n : length (lo ∷ ts) - 1 ≡ length ts = omega arith in
     chained (l .degree) (l .knots) flat poles lo ts
     ∙ indexed-same (pieceOf (l .degree) (l .knots) flat poles (lo ∷ ts)) (slotPiece (linePieces l lo hi p)) (length ts) 0
@@ -69,7 +67,7 @@ line-pieces l lo hi p =
       lo = getD (lo ∷ ts) j nan;
       hi = getD (lo ∷ ts) (suc j) nan;
       net =
-          sym (piece-at l lo hi (drop (0 + length (piecesOf (l .degree) (l .knots) (l .mults) (l .coords) (l .weights) lo hi)) p) j
+          sym (piece-at l lo hi (drop (0 + length (piecesOf l lo hi)) p) j
           (let g : j + 1 < length (lo ∷ ts) = omega arith in g)
           ∙ (let e = add-one j in ap (λ (k : ℕ). netOf (l .degree) (l .knots) flat poles (getD (lo ∷ ts) j nan) (getD (lo ∷ ts) k nan)) e)) i;
     })
@@ -114,12 +112,12 @@ module _ (q : Question) (p1 p2 : List Float) where
   other = linePieces (q .line2) (q .lo2) (q .hi2) p2
 
   abbrev pub numbered : List Pair
-  numbered = pairsFrom (q .gap) one other (pieceCount (q .lo2) (q .hi2) (q .line2 .knots)) (pieceCount (q .lo1) (q .hi1) (q .line1 .knots)) 0
+  numbered = pairsFrom (q .gap) one other (pieceCount (q .line2) (q .lo2) (q .hi2)) (pieceCount (q .line1) (q .lo1) (q .hi1)) 0
 
   all-pushed : pushedPairs (searchFor q) ≡ map (nodeOf (q .gap) one other) numbered
   all-pushed =
       (λ i. pushed (floats geometry (q .gap)) (line-pieces (q .line1) (q .lo1) (q .hi1) p1 i) (line-pieces (q .line2) (q .lo2) (q .hi2) p2 i))
-      ∙ pushed-is (q .gap) one other (pieceCount (q .lo2) (q .hi2) (q .line2 .knots)) (pieceCount (q .lo1) (q .hi1) (q .line1 .knots)) 0
+      ∙ pushed-is (q .gap) one other (pieceCount (q .line2) (q .lo2) (q .hi2)) (pieceCount (q .line1) (q .lo1) (q .hi1)) 0
 
   pub pairs-are : pairsOf (searchFor q) ≡ length numbered
   pairs-are = ap length all-pushed ∙ mapped-length (nodeOf (q .gap) one other) numbered

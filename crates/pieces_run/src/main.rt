@@ -6,6 +6,7 @@ ghost use mathlib.Core.Path.{_≡_};
 ghost use Prim.Native.Nat.{_+_, _*_, _<_, _≤_, _^_};
 ghost use lib.ListN.{length};
 ghost use Rattle.lines.specs.declared.Admission.the-variants.{Admitted};
+ghost use Rattle.lines.specs.Lines.{lineOf};
 ghost use Rattle.lines.specs.Admit.{admitOf};
 use libc::STDIN_FILENO;
 use libc::STDOUT_FILENO;
@@ -270,7 +271,7 @@ fn print_pieces(
     lo: f64,
     hi: f64,
 )
-    requires { ⌜ admitOf degree (now knots) (now mults) (now coords) (now weights) ≡ Admitted ⌝ }
+    requires { ⌜ admitOf (lineOf degree (now knots) (now mults) (now coords) (now weights)) ≡ Admitted ⌝ }
 {
     let n = curves::piece_count(knots, lo, hi);
     let mut out = net_room();
@@ -310,15 +311,11 @@ fn answer(
         degree1,
         knots1,
         mults1,
-        coords1,
-        weights1,
         lo1,
         hi1,
         degree2,
         knots2,
         mults2,
-        coords2,
-        weights2,
         lo2,
         hi2,
         gap,

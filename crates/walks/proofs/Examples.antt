@@ -5,7 +5,7 @@ use Prim.Native.Nat.{ℕ, _+_, _*_, _/_, _%_}
 use lib.Ieee.{Float, binary64, ofBits}
 use Rattle.lines.specs.Lines.{Line}
 use Rattle.walks.specs.Words.{wordAt, floatAt, wordsFrom, floatsFrom}
-use Rattle.walks.specs.Sheets.{walked, refusedAs, badLength, badCount, sizeOf, partOf, weightsOf, lineOf, walkOf}
+use Rattle.walks.specs.Sheets.{walked, refusedAs, badLength, badCount, sizeOf, partOf, weightsOf, lineAfter, walkOf}
 
 -- words as bytes; a word of kind k and count n; the floats 0 and 1 as words
 abbrev bytes : List ℕ → List ℕ
@@ -37,34 +37,34 @@ line = record { degree = 1; knots = zeroF ∷ oneF ∷ []; mults = 2 ∷ 2 ∷ [
 -- "given twice, whole ranges, gap 0, S 0"
 pub given-twice : walkOf (bytes (straight ++ straight ++ (head 6 0 ∷ []) ++ nought ++ one ++ nought ++ one ++ nought ++ (head 7 0 ∷ [])))
     ≡ walked (record { line1 = line; lo1 = zeroF; hi1 = oneF; line2 = line; lo2 = zeroF; hi2 = oneF; gap = zeroF; splits = 0 })
-unfolding walkOf lineOf weightsOf partOf sizeOf badCount badLength floatsFrom wordsFrom floatAt wordAt ofBits
+unfolding walkOf lineAfter weightsOf partOf sizeOf badCount badLength floatsFrom wordsFrom floatAt wordAt ofBits
 given-twice = refl
 
 -- the first word of another kind, with a count that nothing could meet: 2
 pub kind-first : walkOf (bytes (head 2 0xfffffff ∷ [])) ≡ refusedAs 2
-unfolding walkOf lineOf weightsOf partOf sizeOf badCount badLength floatsFrom wordsFrom floatAt wordAt
+unfolding walkOf lineAfter weightsOf partOf sizeOf badCount badLength floatsFrom wordsFrom floatAt wordAt
 kind-first = refl
 
 -- poles of a count whose 24-fold needs 33 bits: 3
 pub huge-count : walkOf (bytes (head 1 1 ∷ head 2 0 ∷ head 3 0 ∷ head 4 0xfffffff ∷ [])) ≡ refusedAs 3
-unfolding walkOf lineOf weightsOf partOf sizeOf badCount badLength floatsFrom wordsFrom floatAt wordAt
+unfolding walkOf lineAfter weightsOf partOf sizeOf badCount badLength floatsFrom wordsFrom floatAt wordAt
 huge-count = refl
 
 -- weights of count 0 as the last word: 2
 pub no-weight : walkOf (bytes (head 1 1 ∷ head 2 0 ∷ head 3 0 ∷ head 4 0 ∷ head 5 0 ∷ [])) ≡ refusedAs 2
-unfolding walkOf lineOf weightsOf partOf sizeOf badCount badLength floatsFrom wordsFrom floatAt wordAt
+unfolding walkOf lineAfter weightsOf partOf sizeOf badCount badLength floatsFrom wordsFrom floatAt wordAt
 no-weight = refl
 
 -- the second line is missing: 3
 pub one-line : walkOf (bytes straight) ≡ refusedAs 3
-unfolding walkOf lineOf weightsOf partOf sizeOf badCount badLength floatsFrom wordsFrom floatAt wordAt
+unfolding walkOf lineAfter weightsOf partOf sizeOf badCount badLength floatsFrom wordsFrom floatAt wordAt
 one-line = refl
 
 -- an end word of count 1 with a word behind it: 2; of count 0: 3
 pub end-counts : walkOf (bytes (straight ++ straight ++ (head 6 0 ∷ []) ++ nought ++ one ++ nought ++ one ++ nought ++ (head 7 1 ∷ 0 ∷ []))) ≡ refusedAs 2
-unfolding walkOf lineOf weightsOf partOf sizeOf badCount badLength floatsFrom wordsFrom floatAt wordAt
+unfolding walkOf lineAfter weightsOf partOf sizeOf badCount badLength floatsFrom wordsFrom floatAt wordAt
 end-counts = refl
 
 pub word-behind : walkOf (bytes (straight ++ straight ++ (head 6 0 ∷ []) ++ nought ++ one ++ nought ++ one ++ nought ++ (head 7 0 ∷ 0 ∷ []))) ≡ refusedAs 3
-unfolding walkOf lineOf weightsOf partOf sizeOf badCount badLength floatsFrom wordsFrom floatAt wordAt
+unfolding walkOf lineAfter weightsOf partOf sizeOf badCount badLength floatsFrom wordsFrom floatAt wordAt
 word-behind = refl

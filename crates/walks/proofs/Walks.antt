@@ -8,7 +8,7 @@ use lib.Dec.{eqb, eqb·suc-zero}
 use lib.ListN.{length}
 use borrow.Author.Tests.{lt-ltb, le-ltb, eq-eqb, ne-eqb}
 use Rattle.walks.specs.Words.{wordAt, kindOf, countOf}
-use Rattle.walks.specs.Sheets.{Walked, walked, refusedAs, badLength, badCount, sizeOf, partOf, weightsOf, lineOf, walkOf}
+use Rattle.walks.specs.Sheets.{Walked, walked, refusedAs, badLength, badCount, sizeOf, partOf, weightsOf, lineAfter, walkOf}
 use Rattle.walks.specs.Places.{unless, lineIn, questionIn, SheetInside, PartFits, LineFits}
 use Rattle.walks.specs.declared.Part.{Part}
 use Rattle.walks.specs.declared.Line.{Line}
@@ -97,7 +97,7 @@ pub line-fits : {s : List ℕ} {n at : ℕ} {d k m p w : Part} → PartFits s n 
     → PartFits s (k .no) (partOf s 3 (k .next)) (sizeOf 3) m → PartFits s (m .no) (partOf s 4 (m .next)) (sizeOf 4) p
     → PartFits s (p .no) (weightsOf s (p .next)) (sizeOf 5) w
     → LineFits s n at (record { no = w .no; degree = d .count; knots = k; mults = m; poles = p; weights = w; next = w .next })
-unfolding lineOf lineIn sizeOf
+unfolding lineAfter lineIn sizeOf
 line-fits d k m p w = record {
   says = λ go. d .says _ ∙ k .says _ ∙ m .says _ ∙ p .says _ ∙ w .says _;
   before = w .before;

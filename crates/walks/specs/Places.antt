@@ -7,7 +7,7 @@ use lib.Dec.{eqb}
 use lib.ListN.{length}
 use Rattle.lines.specs.Lines as given
 use Rattle.walks.specs.Words.{floatAt, wordsFrom, floatsFrom}
-use Rattle.walks.specs.Sheets.{Walked, refusedAs, lineOf}
+use Rattle.walks.specs.Sheets.{Walked, refusedAs, lineAfter}
 use Rattle.walks.specs.declared.Part.{Part}
 use Rattle.walks.specs.declared.Line.{Line}
 use Rattle.walks.specs.declared.Sheet.{Sheet}
@@ -60,6 +60,6 @@ pub record PartFits (s : List ℕ) (n : ℕ) (walk : (ℕ → ℕ → ℕ → Wa
   pub fits : p .no ≡ 0 → (n ≡ 0) × (p .at + size (p .count) ≤ length s)
 
 pub record LineFits (s : List ℕ) (n at : ℕ) (l : Line) : Type 0 where
-  pub says : (go : given.Line → ℕ → Walked) → unless n (lineOf s at go) ≡ unless (l .no) (go (lineIn s l) (l .next))
+  pub says : (go : given.Line → ℕ → Walked) → unless n (lineAfter s at go) ≡ unless (l .no) (go (lineIn s l) (l .next))
   pub before : l .next ≤ length s
   pub fits : l .no ≡ 0 → (n ≡ 0) × LineInside (length s) l

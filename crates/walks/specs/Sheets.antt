@@ -39,8 +39,8 @@ unfoldable pub weightsOf : List ℕ → ℕ → (ℕ → ℕ → ℕ → Walked)
 weightsOf s at go = cond (not (ltb (length s) (at + 4)) && eqb (kindOf (wordAt s at)) 5) (partOf s 5 at go) (go 0 at at)
 
 -- "In order: 1 line (N the degree); 2 knots; 3 multiplicities; 4 poles; 5 weights", from place `at` on (`line_after`); `go` is what follows, given the line and the place behind it
-unfoldable pub lineOf : List ℕ → ℕ → (Line → ℕ → Walked) → Walked
-lineOf s at go =
+unfoldable pub lineAfter : List ℕ → ℕ → (Line → ℕ → Walked) → Walked
+lineAfter s at go =
     partOf s 1 at (λ degree here a.
     partOf s 2 a (λ k knots b.
     partOf s 3 b (λ m mults c.
@@ -52,8 +52,8 @@ lineOf s at go =
 unfoldable pub walkOf : List ℕ → Walked
 walkOf s =
     cond (badLength (length s)) (refusedAs 1)
-    (lineOf s 0 (λ first a.
-    lineOf s a (λ second b.
+    (lineAfter s 0 (λ first a.
+    lineAfter s a (λ second b.
     partOf s 6 b (λ n q c.
     partOf s 7 c (λ none here d.
     cond (not (eqb d (length s))) (refusedAs 3)

@@ -10,12 +10,12 @@ use lib.Dec.{ltb, eqb, lit<}
 use lib.ListN.{length}
 use lib.Ieee.{Float}
 use Rattle.lists.specs.Members.{All}
-use Rattle.lines.specs.Admit.{admissionNumber}
+use Rattle.lines.specs.Admit.{admissionNumber, admitOf}
 use Rattle.lines.specs.Lines.{Line, Question}
 use Rattle.questions.specs.declared.Asked.{Asked as AskAnswer}
 use Rattle.questions.specs.declared.Asked.the-variants.{Fine, RangeOutOfBounds, GapOutOfRange, TooManySplits, BreaksTooClose}
-use Rattle.questions.specs.Questions.{askedNumber, askedLine}
-use Rattle.facts.specs.Faults.{admission, asked, askedPlace, LineFault, FirstLineFault, QuestionFault, FirstQuestionFault}
+use Rattle.questions.specs.Questions.{askedNumber, askedLine, askOf}
+use Rattle.facts.specs.Faults.{askedPlace, LineFault, FirstLineFault, QuestionFault, FirstQuestionFault}
 use Rattle.facts.proofs.Facts.{line-table, question-table}
 use Rattle.states.specs.declared.State.{State}
 use Rattle.states.specs.States.{Memory, sizes, needed, enough}
@@ -25,7 +25,7 @@ use Rattle.opening.specs.Asked.{start, stateOf, openMemory}
 use Rattle.opening.specs.Opens.{searchFor, isAdmitted, isFine, piecesFit, piecesIn, Pushing, pushing, Opening, opening, openDef}
 use Rattle.opening.proofs.Laws.{is-admitted}
 use Rattle.walks.specs.Words.{wordAt, kindOf, countOf}
-use Rattle.walks.specs.Sheets.{Walked, walked, refusedAs, badLength, badCount, sizeOf, partOf, weightsOf, lineOf, walkOf}
+use Rattle.walks.specs.Sheets.{Walked, walked, refusedAs, badLength, badCount, sizeOf, partOf, weightsOf, lineAfter, walkOf}
 use Rattle.printing.specs.Printed.{refusalLine}
 use Rattle.sheet.specs.Answers.{zeros, lent, openedText, linesText, walkedText, answerOf}
 use Rattle.whole.specs.Refusals.{OneOf, Numbered, GoodLine, GoodQuestion, Short, Fault, inSheet, inFirst, inSecond, inQuestion, inMemory, FaultPrinted}
@@ -59,8 +59,8 @@ module _ (s : List ℕ) where
       by true = few-part 5 at go f
       by false = f 0 at at
 
-  few-line : (at : ℕ) (go : Line → ℕ → Walked) → ((l : Line) (n : ℕ) → Few (go l n)) → Few (lineOf s at go)
-  unfolding lineOf
+  few-line : (at : ℕ) (go : Line → ℕ → Walked) → ((l : Line) (n : ℕ) → Few (go l n)) → Few (lineAfter s at go)
+  unfolding lineAfter
   few-line at go f = few-part 1 at _ (λ a b c. few-part 2 c _ (λ d e g. few-part 3 g _ (λ h i j. few-part 4 j _ (λ k l m. few-weights m _ (λ n o p. f _ p)))))
 
   few-walk : Few (walkOf s)
@@ -150,19 +150,19 @@ over-zero zero e = absurd (false≢true (sym e))
 over-zero (suc n) e = omega arith
 
 -- ---- the tests, from the table's words and back
-good-admitted : (l : Line) → GoodLine l → isAdmitted (admission l) ≡ true
+good-admitted : (l : Line) → GoodLine l → isAdmitted (admitOf l) ≡ true
 good-admitted l g = ap isAdmitted (line-table l .1 .1 g)
 
-admitted-good : (l : Line) → isAdmitted (admission l) ≡ true → GoodLine l
-admitted-good l e = line-table l .1 .0 (is-admitted (admission l) e)
+admitted-good : (l : Line) → isAdmitted (admitOf l) ≡ true → GoodLine l
+admitted-good l e = line-table l .1 .0 (is-admitted (admitOf l) e)
 
-fault-refused : (l : Line) (n : ℕ) → FirstLineFault n l → (admissionNumber (admission l) ≡ n) × (isAdmitted (admission l) ≡ false)
+fault-refused : (l : Line) (n : ℕ) → FirstLineFault n l → (admissionNumber (admitOf l) ≡ n) × (isAdmitted (admitOf l) ≡ false)
 fault-refused l n f =
     let e = line-table l .0 n (line-above n l (f .0)) .1 f in
     (e, ap (λ (k : ℕ). eqb k 0) e ∙ not-zero n (line-above n l (f .0)))
 
-refused-fault : (l : Line) → isAdmitted (admission l) ≡ false → FirstLineFault (admissionNumber (admission l)) l
-refused-fault l e = line-table l .0 (admissionNumber (admission l)) (over-zero (admissionNumber (admission l)) e) .0 refl
+refused-fault : (l : Line) → isAdmitted (admitOf l) ≡ false → FirstLineFault (admissionNumber (admitOf l)) l
+refused-fault l e = line-table l .0 (admissionNumber (admitOf l)) (over-zero (admissionNumber (admitOf l)) e) .0 refl
 
 is-fine : (a : AskAnswer) → isFine a ≡ true → a ≡ Fine
 is-fine Fine e = refl
@@ -172,23 +172,23 @@ is-fine TooManySplits e = absurd (false≢true e)
 is-fine (BreaksTooClose line) e = absurd (false≢true e)
 
 module _ (q : Question) (g : GoodLine (q .line1)) (h : GoodLine (q .line2)) where
-  table : ((n : ℕ × ℕ) → 0 < n .0 → (askedPlace q ≡ n) ↔ FirstQuestionFault n q) × ((asked q ≡ Fine) ↔ GoodQuestion q)
+  table : ((n : ℕ × ℕ) → 0 < n .0 → (askedPlace q ≡ n) ↔ FirstQuestionFault n q) × ((askOf q ≡ Fine) ↔ GoodQuestion q)
   table = question-table q (line-table (q .line1) .1 .1 g) (line-table (q .line2) .1 .1 h)
 
-  good-fine : GoodQuestion q → isFine (asked q) ≡ true
+  good-fine : GoodQuestion q → isFine (askOf q) ≡ true
   good-fine f = ap isFine (table .1 .1 f)
 
-  fine-good : isFine (asked q) ≡ true → GoodQuestion q
-  fine-good e = table .1 .0 (is-fine (asked q) e)
+  fine-good : isFine (askOf q) ≡ true → GoodQuestion q
+  fine-good e = table .1 .0 (is-fine (askOf q) e)
 
-  fault-asked : (n : ℕ × ℕ) → FirstQuestionFault n q → (askedPlace q ≡ n) × (isFine (asked q) ≡ false)
+  fault-asked : (n : ℕ × ℕ) → FirstQuestionFault n q → (askedPlace q ≡ n) × (isFine (askOf q) ≡ false)
   fault-asked n f =
       let a = question-above n q (f .0) in
       let e = table .0 n a .1 f in
       (e, ap (λ (m : ℕ × ℕ). eqb (m .0) 0) e ∙ not-zero (n .0) a)
 
-  asked-fault : isFine (asked q) ≡ false → FirstQuestionFault (askedPlace q) q
-  asked-fault e = table .0 (askedPlace q) (over-zero (askedNumber (asked q)) e) .0 refl
+  asked-fault : isFine (askOf q) ≡ false → FirstQuestionFault (askedPlace q) q
+  asked-fault e = table .0 (askedPlace q) (over-zero (askedNumber (askOf q)) e) .0 refl
 
 -- ---- the opening on the lent memory, by its tests
 module _ (q : Question) where
@@ -200,7 +200,7 @@ module _ (q : Question) where
 
   abbrev byTests : Bool → Bool → Bool → Bool → Bool → Opened
   byTests a b c d e =
-      cond a (cond b (cond c (cond d (cond e (Open x) NoRoom) NoRoom) (BadQuestion (asked q))) (BadLine 2 (admission (q .line2)))) (BadLine 1 (admission (q .line1)))
+      cond a (cond b (cond c (cond d (cond e (Open x) NoRoom) NoRoom) (BadQuestion (askOf q))) (BadLine 2 (admitOf (q .line2)))) (BadLine 1 (admitOf (q .line1)))
 
   abbrev pushes : Bool → Opening
   pushes e =
@@ -208,12 +208,12 @@ module _ (q : Question) where
       opening (o .answer) (piecesIn (q .line1) (q .lo1) (q .hi1) z) (piecesIn (q .line2) (q .lo2) (q .hi2) z) (o .memory)
 
   tested : openDef q z z lent .answer
-      ≡ byTests (isAdmitted (admission (q .line1))) (isAdmitted (admission (q .line2))) (isFine (asked q)) (piecesFit q z z) (enough (needed x) (sizes lent))
-  tested = go (isAdmitted (admission (q .line1))) (isAdmitted (admission (q .line2))) (isFine (asked q)) (piecesFit q z z) (enough (needed x) (sizes lent))
+      ≡ byTests (isAdmitted (admitOf (q .line1))) (isAdmitted (admitOf (q .line2))) (isFine (askOf q)) (piecesFit q z z) (enough (needed x) (sizes lent))
+  tested = go (isAdmitted (admitOf (q .line1))) (isAdmitted (admitOf (q .line2))) (isFine (askOf q)) (piecesFit q z z) (enough (needed x) (sizes lent))
     where
       go : (a b c d e : Bool)
-          → cond {A = Opening} a (cond b (cond c (cond d (pushes e) (opening NoRoom z z lent)) (opening (BadQuestion (asked q)) z z lent))
-          (opening (BadLine 2 (admission (q .line2))) z z lent)) (opening (BadLine 1 (admission (q .line1))) z z lent) .answer
+          → cond {A = Opening} a (cond b (cond c (cond d (pushes e) (opening NoRoom z z lent)) (opening (BadQuestion (askOf q)) z z lent))
+          (opening (BadLine 2 (admitOf (q .line2))) z z lent)) (opening (BadLine 1 (admitOf (q .line1))) z z lent) .answer
           ≡ byTests a b c d e
       go true true true true true = refl
       go true true true true false = refl
@@ -222,7 +222,7 @@ module _ (q : Question) where
       go true false c d e = refl
       go false b c d e = refl
 
-  tested-as : {a b c d e : Bool} → isAdmitted (admission (q .line1)) ≡ a → isAdmitted (admission (q .line2)) ≡ b → isFine (asked q) ≡ c → piecesFit q z z ≡ d
+  tested-as : {a b c d e : Bool} → isAdmitted (admitOf (q .line1)) ≡ a → isAdmitted (admitOf (q .line2)) ≡ b → isFine (askOf q) ≡ c → piecesFit q z z ≡ d
       → enough (needed x) (sizes lent) ≡ e → openDef q z z lent .answer ≡ byTests a b c d e
   tested-as ea eb ec ed ee = tested ∙ (λ i. byTests (ea i) (eb i) (ec i) (ed i) (ee i))
 
@@ -237,14 +237,14 @@ unfolding answerOf
 fault-printed s n place (inSheet e p) = ap walkedText e ∙ ap (refusalLine n) (sym p)
 fault-printed s n place (inFirst q w f p) =
     let r = fault-refused (q .line1) n f in
-    said q s w (BadLine 1 (admission (q .line1))) (refusalLine n place) (tested-as q (r .1) refl refl refl refl) (λ m. (λ i. refusalLine (r .0 i) (sym p i)))
+    said q s w (BadLine 1 (admitOf (q .line1))) (refusalLine n place) (tested-as q (r .1) refl refl refl refl) (λ m. (λ i. refusalLine (r .0 i) (sym p i)))
 fault-printed s n place (inSecond q w g f p) =
     let r = fault-refused (q .line2) n f in
-    said q s w (BadLine 2 (admission (q .line2))) (refusalLine n place) (tested-as q (good-admitted (q .line1) g) (r .1) refl refl refl)
+    said q s w (BadLine 2 (admitOf (q .line2))) (refusalLine n place) (tested-as q (good-admitted (q .line1) g) (r .1) refl refl refl)
     (λ m. (λ i. refusalLine (r .0 i) (sym p i)))
 fault-printed s n place (inQuestion q w g h f) =
     let r = fault-asked q g h (n, place) f in
-    said q s w (BadQuestion (asked q)) (refusalLine n place) (tested-as q (good-admitted (q .line1) g) (good-admitted (q .line2) h) (r .1) refl refl)
+    said q s w (BadQuestion (askOf q)) (refusalLine n place) (tested-as q (good-admitted (q .line1) g) (good-admitted (q .line2) h) (r .1) refl refl)
     (λ m. (λ i. refusalLine (r .0 i .0) (r .0 i .1)))
 fault-printed s n place (inMemory q w g h f l m p) =
     said q s w NoRoom (refusalLine n place) (short l) (λ u. (λ i. refusalLine (sym m i) (sym p i)))
@@ -265,18 +265,18 @@ pub data Met (s : List ℕ) : Type 0 where
 
 met-walked : (s : List ℕ) (q : Question) → walkOf s ≡ walked q → Met s
 met-walked s q w =
-    go (isAdmitted (admission (q .line1))) refl (isAdmitted (admission (q .line2))) refl (isFine (asked q)) refl (piecesFit q (zeros 8112) (zeros 8112)) refl
+    go (isAdmitted (admitOf (q .line1))) refl (isAdmitted (admitOf (q .line2))) refl (isFine (askOf q)) refl (piecesFit q (zeros 8112) (zeros 8112)) refl
     (enough (needed (x q)) (sizes lent)) refl
   where
-    go : (a : Bool) → isAdmitted (admission (q .line1)) ≡ a → (b : Bool) → isAdmitted (admission (q .line2)) ≡ b → (c : Bool) → isFine (asked q) ≡ c
+    go : (a : Bool) → isAdmitted (admitOf (q .line1)) ≡ a → (b : Bool) → isAdmitted (admitOf (q .line2)) ≡ b → (c : Bool) → isFine (askOf q) ≡ c
         → (d : Bool) → piecesFit q (zeros 8112) (zeros 8112) ≡ d → (e : Bool) → enough (needed (x q)) (sizes lent) ≡ e → Met s
-    go false ea b eb c ec d ed e ee = faulty (admissionNumber (admission (q .line1))) 1 (inFirst q w (refused-fault (q .line1) ea) refl)
+    go false ea b eb c ec d ed e ee = faulty (admissionNumber (admitOf (q .line1))) 1 (inFirst q w (refused-fault (q .line1) ea) refl)
     go true ea false eb c ec d ed e ee =
-        faulty (admissionNumber (admission (q .line2))) 2 (inSecond q w (admitted-good (q .line1) ea) (refused-fault (q .line2) eb) refl)
+        faulty (admissionNumber (admitOf (q .line2))) 2 (inSecond q w (admitted-good (q .line1) ea) (refused-fault (q .line2) eb) refl)
     go true ea true eb false ec d ed e ee =
         let g = admitted-good (q .line1) ea in
         let h = admitted-good (q .line2) eb in
-        faulty (askedNumber (asked q)) (askedLine (asked q)) (inQuestion q w g h (asked-fault q g h ec))
+        faulty (askedNumber (askOf q)) (askedLine (askOf q)) (inQuestion q w g h (asked-fault q g h ec))
     go true ea true eb true ec false ed e ee =
         let g = admitted-good (q .line1) ea in
         let h = admitted-good (q .line2) eb in
