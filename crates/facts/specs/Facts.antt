@@ -5,7 +5,7 @@ use mathlib.Core.Bool.{true}
 use Prim.Native.Nat.{ℕ, _<_, _≤_}
 use lib.Dec.{T}
 use lib.Ieee.{Float, le, lt}
-use Rattle.lists.specs.Members.{Any}
+use Rattle.lists.specs.Members.{Any, All}
 use Rattle.lists.specs.Tests.{eachTwo}
 use Rattle.floats.specs.Stations.{InRange, Piece, piecesFrom}
 use Rattle.lines.specs.Lines.{Line, Question}
@@ -16,7 +16,7 @@ use Rattle.knots.specs.Knots.{boundsOf, breaksOf}
 use Rattle.questions.specs.Questions.{rangeFits, parted, askOf}
 use Rattle.curves.specs.Curves.{piecesOf, cutsOf, netsIn}
 use Rattle.facts.specs.Faults.{poles, LineFault, FirstLineFault, askedPlace, QuestionFault, FirstQuestionFault}
-use Rattle.facts.specs.Spans.{AllTwo, InSpan, spanNumber, InOneSpan}
+use Rattle.facts.specs.Spans.{AllTwo, InSpan, spanNumber, InOneSpan, OfOneSpan}
 
 -- "When, and only then", numbers 4 to 14: a line gets a number exactly if that row is the first that it meets, and is admitted exactly if it meets none.
 abbrev pub LineTable : Type 0
@@ -48,3 +48,8 @@ SpanHolds = (l : Line) (u : Float) → admitOf l ≡ Admitted → T (le (boundsO
 abbrev pub BreaksInSpans : Type 0
 BreaksInSpans = (l : Line) (lo hi : Float) → admitOf l ≡ Admitted → rangeFits (boundsOf l) lo hi ≡ true
     → eachTwo parted (breaksOf l lo hi) ≡ true → AllTwo (InOneSpan l) (breaksOf l lo hi)
+
+-- The same of the pieces that the search gets, each with its net: a piece's range is no wider than the stretch that its net covers.
+abbrev pub PiecesInSpans : Type 0
+PiecesInSpans = (l : Line) (lo hi : Float) → admitOf l ≡ Admitted → rangeFits (boundsOf l) lo hi ≡ true
+    → eachTwo parted (breaksOf l lo hi) ≡ true → All (OfOneSpan l) (piecesFrom lo (cutsOf l lo hi))

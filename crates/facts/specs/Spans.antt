@@ -6,11 +6,13 @@ use lib.Dec.{T}
 use lib.ListN.{getD}
 use lib.Ieee.{Float, nan, le, lt}
 use Rattle.floats.specs.Floats.{middle}
+use Rattle.floats.specs.Stations.{Piece}
 use Rattle.points.specs.declared.Interval.{Interval}
 use Rattle.lines.specs.Lines.{Line}
 use Rattle.knots.specs.Knots.{flatOf}
 use Rattle.spans.specs.Spans.{spanOf, spanAround}
-use Rattle.pieces.specs.Pieces.{held}
+use Rattle.pieces.specs.Pieces.{held, netAt, cutTo}
+use Rattle.curves.specs.Curves.{polesOf}
 
 -- each two neighbours are related
 abbrev pub AllTwo : {A : Type 0} → (A → A → Type 0) → List A → Type 0
@@ -40,3 +42,10 @@ pub record InOneSpan (l : Line) (t0 t1 : Float) : Type 0 where
   pub to : T (le t1 (around l t0 t1 .hi))
   pub starts : getD (flatOf l) (netSpan l t0 t1) nan ≡ around l t0 t1 .lo
   pub ends : getD (flatOf l) (netSpan l t0 t1 + 1) nan ≡ around l t0 t1 .hi
+
+-- A piece belongs to its stretch: its range lies in one span, and its net is that span's net cut to the range.
+pub record OfOneSpan (l : Line) (p : Piece) : Type 0 where
+  pub range : InOneSpan l (p .lo) (p .hi)
+  pub net : p .net
+      ≡ cutTo (around l (p .lo) (p .hi)) (p .lo) (p .hi) (l .degree + 1)
+      (netAt (l .degree) (flatOf l) (polesOf l) (netSpan l (p .lo) (p .hi)) (held (l .degree) (flatOf l) (middle (p .lo) (p .hi))))
