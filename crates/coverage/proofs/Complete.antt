@@ -283,7 +283,7 @@ Claims q full x u =
     × ((y : State) → runDef (q .geometry) x u .answer ≡ Next y → (slice : List Float) → x .pairs * suc (x .quota) * 10 ≤ length slice
     → Reports q full (reportDef (q .geometry) y (runDef (q .geometry) x u .memory) slice))
 
-same-next : (x y : State) → Next x ≡ Next y → x ≡ y
+pub same-next : (x y : State) → Next x ≡ Next y → x ≡ y
 same-next x y e = cc
 
 module _ (q : Asked) (u : Memory) (F : Fine q) (room : T (enough (needed (stateOf q (start q))) (sizes u))) where
@@ -316,8 +316,12 @@ loop-reports q p1 p2 u x y e r = opened-fresh q p1 p2 u x (λ (y : State) (m : M
 
 -- ---- what is told is the loop's, and nothing else
 pub one-report : OneReport
-one-report q full o r = (r .good .named, r .good .tallied, r .good .read ∙ ap flats (r .good .listed))
+one-report q full o r = (r .good .named, r .good .tallied, r .good .number ∙ ap length (r .good .listed), r .good .read ∙ ap flats (r .good .listed))
+
+none-of : {A : Type 0} (P : A → Type 0) (l : List A) → All (λ (e : A). P e → ⊥) l → Any P l → ⊥
+none-of P (x ∷ l) h (inl y) = h .0 y
+none-of P (x ∷ l) h (inr y) = none-of P l (h .1) y
 
 pub not-clear : NotClear
-not-clear q full e s t a b off c =
-    elim (c .held s t a b) [ inl x ↦ off x | inr y ↦ subst (Any (λ (e : Settling (shape q)). InNode (shape q) s t (e .node))) e y ]
+not-clear q full s t a b off out c =
+    elim (c .held s t a b) [ inl x ↦ off x | inr y ↦ none-of (λ (e : Settling (shape q)). InNode (shape q) s t (e .node)) (looped q full .settled) out y ]
