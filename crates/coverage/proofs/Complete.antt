@@ -44,7 +44,7 @@ use Rattle.coverage.specs.Complete.{turnCalls, loopCalls, looped, Ends, 
 use Rattle.coverage.proofs.Refine.{StepSim, unchanged, moved, search, ruleWith, step-sim}
 use Rattle.coverage.proofs.Chain.{Inv, own-fields, hear-inv, reportWith, report-fields}
 use Rattle.coverage.proofs.Opening.{open-inv}
-use Rattle.coverage.proofs.Final.{Ok, Cleared, ok-advance, ok-hear, ok-start, stay-all, word-exact, good-report}
+use Rattle.coverage.proofs.Final.{Ok, Cleared, ok-advance, ok-hear, ok-start, stay-all, rule-append, word-exact, good-report}
 use Rattle.coverage.proofs.Demand3.{opened-fresh}
 
 -- every settled node was settled on the own verdict
@@ -111,11 +111,6 @@ module _ (q : Asked) (low : (w : ℕ) (l : List Float) → length l ≡ 4 * w �
       go false zero h = inl tt
       go false (suc j) h = inr (omega arith)
 
-  -- calls after other calls
-  rule-append : (cs ds : List Call) (m : Search (shape q)) → ruleAll q full (cs ++ ds) m .search ≡ ruleAll q full ds (ruleAll q full cs m .search) .search
-  rule-append [] ds m = refl
-  rule-append (c ∷ cs) ds m = rule-append cs ds (callRule q full c m .search)
-
   -- one turn, lent the whole memory, as the rules answer it, and the turns after it
   one-turn : (k : ℕ) (n : Node (shape q)) (r : List (Node (shape q))) (se : List (Settling (shape q))) (gi : List (Node (shape q))) (vi sp un : ℕ) (to : Bool)
       → let v = q .geometry .clearing (q .gap) (netOf1 q n) (netOf2 q n) in
@@ -135,7 +130,7 @@ module _ (q : Asked) (low : (w : ℕ) (l : List Float) → length l ≡ 4 * w �
       let g : stepRule q full v full m1 .search ≡ advance (shape q) v m1
       = ap (λ (b : Bool). cond {A = Ruled q} b (record { answer = stepped (Next (stateOf q (advance (shape q) v m1))); search = advance (shape q) v m1 })
       (record { answer = stepped NoRoom; search = m1 }) .search) e2 in
-      rule-append (turnCalls full (ownRule q full full m0)) _ m0
+      rule-append q full (turnCalls full (ownRule q full full m0)) _ m0
       ∙ ap (turned-from k) (t ∙ ap (λ (x : Search (shape q)). stepRule q full v full x .search) h ∙ g)
 
   -- one turn, and the rest of the loop

@@ -362,6 +362,11 @@ module _ (q : Asked) (full : Sizes) where
   stay-all [] m t = refl
   stay-all (c ∷ cs) m t = ap (λ (x : Search (shape q)). ruleAll q full cs x .search) (stay-call c m t) ∙ stay-all cs m t
 
+  -- calls after other calls
+  pub rule-append : (cs ds : List Call) (m : Search (shape q)) → ruleAll q full (cs ++ ds) m .search ≡ ruleAll q full ds (ruleAll q full cs m .search) .search
+  rule-append [] ds m = refl
+  rule-append (c ∷ cs) ds m = rule-append cs ds (callRule q full c m .search)
+
   later : (cs : List Call) (m : Search (shape q)) (a : Answer) → GoodAnswer q m a → GoodAnswer q (ruleAll q full cs m .search) a
   later cs m (stepped a) h = tt
   later cs m (judged a) h = tt
