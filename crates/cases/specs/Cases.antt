@@ -1,5 +1,5 @@
 -- Document 01's starred lines as one list of cases: roots, the pieces of a line, and whole searches (the opening, the loop with the own verdicts, the report, in as much memory
--- as they need). A second list has nets with the Rust's bits and the bounds of a line with free ends. Definitions only.
+-- as they need). A second list has nets with the Rust's bits and the bounds of a line with free ends; last, searches with several pieces. Definitions only.
 use mathlib.Core.Path.{_≡_}
 use mathlib.Core.List.{List, [], _∷_, map}
 use Prim.Native.Nat.{ℕ, suc, _*_}
@@ -252,3 +252,61 @@ further =
     ∷ testing (ofFreeEnds two64 aboveThree64) (15, 1)
     ∷ testing (ofFreeEnds belowTwo64 three64) (15, 1)
     ∷ []
+
+-- ---- several pieces: their ranges, and regions of more than one pair
+-- at S 0, in memory for two pairs, with a report slice for two regions
+abbrev pub searchOfTwo : Question → Answer
+searchOfTwo q =
+    let u = memory (replicate 528 zero64) (replicate 528 zero64) (replicate 264 zero64) (replicate 66 0) (replicate 20 zero64) in
+    let o = openDef q (replicate 24 zero64) (replicate 8 zero64) u in
+    ranFrom 1 (o .answer) (o .memory)
+
+-- a range of a line from 0, against all of a straight one, at gap 0 and S 0
+abbrev pub upTo : Line → Float → Line → Question
+upTo l hi k = record { line1 = l; lo1 = zero64; hi1 = hi; line2 = k; lo2 = zero64; hi2 = one64; gap = zero64; splits = 0 }
+
+-- degree 1: (0,0,−1), (1,4,3), (8,4,3), (10,−2,−3), knots 0, 1, 2, 3
+abbrev pub lineOfThree : Line
+lineOfThree = record {
+  degree = 1;
+  knots = zero64 ∷ one64 ∷ two64 ∷ three64 ∷ [];
+  mults = 2 ∷ 1 ∷ 1 ∷ 2 ∷ [];
+  coords = floats (
+      0 ∷ 0 ∷ 0xbff0_0000_0000_0000 ∷ 0x3ff0_0000_0000_0000 ∷ 0x4010_0000_0000_0000 ∷ 0x4008_0000_0000_0000 ∷
+      0x4020_0000_0000_0000 ∷ 0x4010_0000_0000_0000 ∷ 0x4008_0000_0000_0000 ∷ 0x4024_0000_0000_0000 ∷ 0xc000_0000_0000_0000 ∷ 0xc008_0000_0000_0000 ∷ []);
+  weights = [];
+}
+
+-- Against (−1,1,0) to (10,1,0) the middle piece is set apart by its boxes. The pairs of the other two wait, each with its own piece's range, and are two regions in the order of their starts.
+abbrev pub ThreePieces : Type 0
+ThreePieces =
+    searchOfTwo (upTo lineOfThree three64 (straight (ofBits binary64 0xbff0_0000_0000_0000) one64 ten64 one64))
+    ≡ (record {
+      word = 1;
+      counts = 2 ∷ 1 ∷ 0 ∷ 0 ∷ 0 ∷ 2 ∷ 0 ∷ [];
+      regions = floats (
+          0 ∷ 0x3ff0_0000_0000_0000 ∷ 0 ∷ 0x3ff0_0000_0000_0000 ∷ 0xbff0_0000_0000_0000 ∷ 0 ∷ 0xbff0_0000_0000_0000 ∷ 0x4024_0000_0000_0000 ∷ 0x4010_0000_0000_0000 ∷ 0x4008_0000_0000_0000 ∷
+          0x4000_0000_0000_0000 ∷ 0x4008_0000_0000_0000 ∷ 0 ∷ 0x3ff0_0000_0000_0000 ∷ 0xbff0_0000_0000_0000 ∷ 0xc000_0000_0000_0000 ∷ 0xc008_0000_0000_0000 ∷ 0x4024_0000_0000_0000 ∷ 0x4010_0000_0000_0000 ∷ 0x4008_0000_0000_0000 ∷ []);
+      left = zero64 ∷ one64 ∷ zero64 ∷ one64 ∷ two64 ∷ three64 ∷ zero64 ∷ one64 ∷ [];
+    })
+
+-- degree 1: (0,0,0), (2,2,0), (4,0,0), knots 0, 1, 2
+abbrev pub upAndDown : Line
+upAndDown = record {
+  degree = 1;
+  knots = zero64 ∷ one64 ∷ two64 ∷ [];
+  mults = 2 ∷ 1 ∷ 2 ∷ [];
+  coords = floats (0 ∷ 0 ∷ 0 ∷ 0x4000_0000_0000_0000 ∷ 0x4000_0000_0000_0000 ∷ 0 ∷ 0x4010_0000_0000_0000 ∷ 0 ∷ 0 ∷ []);
+  weights = [];
+}
+
+-- Against (0,1,0) to (4,1,0) both pieces' pairs wait; their ranges touch, and they are one region with the box of both.
+abbrev pub TwoPieces : Type 0
+TwoPieces =
+    searchOfTwo (upTo upAndDown two64 (straight zero64 one64 (ofBits binary64 0x4010_0000_0000_0000) one64))
+    ≡ (record {
+      word = 1;
+      counts = 2 ∷ 1 ∷ 0 ∷ 0 ∷ 0 ∷ 2 ∷ 0 ∷ [];
+      regions = zero64 ∷ two64 ∷ zero64 ∷ one64 ∷ zero64 ∷ zero64 ∷ zero64 ∷ ofBits binary64 0x4010_0000_0000_0000 ∷ two64 ∷ zero64 ∷ [];
+      left = zero64 ∷ one64 ∷ zero64 ∷ one64 ∷ one64 ∷ two64 ∷ zero64 ∷ one64 ∷ [];
+    })

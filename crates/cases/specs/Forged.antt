@@ -1,0 +1,75 @@
+-- States that are no search's, each beside one that could be (document 01: "There 19 also meets a state that is no search's"). Definitions only.
+use mathlib.Core.Path.{_≡_}
+use mathlib.Core.Bool.{false}
+use mathlib.Core.List.{List, [], _∷_}
+use Prim.Native.Nat.{ℕ}
+use lib.ListN.{replicate}
+use Rattle.lists.specs.Members.{All}
+use Rattle.floats.specs.Floats.{zero64}
+use Rattle.verdicts.specs.declared.Verdict.the-variants.{Settled}
+use Rattle.states.specs.declared.State.{State}
+use Rattle.states.specs.States.{Memory, memory}
+use Rattle.nodes.specs.Nets.{geometry}
+use Rattle.search.specs.Steps.{steppedNumber, stepDef}
+
+-- the counts of a state with one pair at S 1; the depth of its top node; the number of a step on it, 0 for one that is not refused
+pub record Forged : Type 0 where
+  pub waiting : ℕ
+  pub visits : ℕ
+  pub splits : ℕ
+  pub unspent : ℕ
+  pub settled : ℕ
+  pub given : ℕ
+  pub depth : ℕ
+  pub number : ℕ
+
+abbrev pub forged : (waiting visits splits unspent settled given depth number : ℕ) → Forged
+forged a b c d e f g n = record { waiting = a; visits = b; splits = c; unspent = d; settled = e; given = f; depth = g; number = n }
+
+abbrev pub stateFor : Forged → State
+stateFor f = record {
+  pairs = 1;
+  quota = 1;
+  waiting = f .waiting;
+  visits = f .visits;
+  splits = f .splits;
+  unspent = f .unspent;
+  settled = f .settled;
+  given = f .given;
+  width1 = 2;
+  width2 = 2;
+  gap = zero64;
+  stopped = false;
+}
+
+-- as much as one pair needs, with that depth in each slot
+abbrev pub memoryFor : Forged → Memory
+memoryFor f = memory (replicate 520 zero64) (replicate 520 zero64) (replicate 260 zero64) (replicate 65 (f .depth)) (replicate 20 zero64)
+
+abbrev pub Answered : Forged → Type 0
+Answered f = (steppedNumber (stepDef geometry (stateFor f) (memoryFor f) Settled .answer) ≡ f .number)
+
+abbrev pub forgeries : List Forged
+forgeries =
+    -- a fresh search; visits is splits + settled + given + 1, and over it
+    forged 1 0 0 1 0 0 0 0
+    ∷ forged 1 1 0 1 0 0 0 0
+    ∷ forged 1 2 0 1 0 0 0 19
+    -- two wait after a split, which is P + the top node's depth of 1, and over P + 0
+    ∷ forged 2 1 1 0 0 0 1 0
+    ∷ forged 2 1 1 0 0 0 0 19
+    -- a depth of 64, and over it
+    ∷ forged 1 0 0 1 0 0 64 0
+    ∷ forged 1 0 0 1 0 0 65 19
+    -- pairs + splits ≠ settled + given + waiting
+    ∷ forged 1 1 0 1 1 0 0 19
+    ∷ forged 1 1 0 1 0 1 0 19
+    -- splits + unspent ≠ S × P
+    ∷ forged 1 0 0 0 0 0 0 19
+    ∷ forged 1 0 0 2 0 0 0 19
+    -- none waits: 20 comes before 19
+    ∷ forged 0 9 0 1 0 0 0 20
+    ∷ []
+
+abbrev pub Forgeries : Type 0
+Forgeries = All Answered forgeries
