@@ -28,7 +28,7 @@ use Rattle.walks.specs.Words.{wordAt, kindOf, countOf}
 use Rattle.walks.specs.Sheets.{Walked, walked, refusedAs, badLength, badCount, sizeOf, partOf, weightsOf, lineAfter, walkOf}
 use Rattle.printing.specs.Printed.{refusalLine}
 use Rattle.sheet.specs.Answers.{zeros, lent, openedText, linesText, walkedText, answerOf}
-use Rattle.whole.specs.Refusals.{OneOf, Numbered, GoodLine, GoodQuestion, Short, Fault, inSheet, inFirst, inSecond, inQuestion, inMemory, FaultPrinted}
+use Rattle.whole.specs.Refusals.{OneOf, Numbered, GoodLine, GoodQuestion, Short, Faultless, Fault, inSheet, inFirst, inSecond, inQuestion, inMemory, FaultPrinted}
 
 -- ---- the walk refuses with 1, 2 or 3
 abbrev Few : Walked → Type 0
@@ -261,7 +261,7 @@ fault-printed s n place (inMemory q w g h f l m p) =
 -- ---- every sheet has a fault, or is opened
 pub data Met (s : List ℕ) : Type 0 where
   faulty : (n place : ℕ) → Fault s n place → Met s
-  opens : (q : Question) → walkOf s ≡ walked q → openDef q (zeros 8112) (zeros 8112) lent .answer ≡ Open (x q) → Met s
+  opens : (q : Question) → walkOf s ≡ walked q → Faultless q → openDef q (zeros 8112) (zeros 8112) lent .answer ≡ Open (x q) → Met s
 
 met-walked : (s : List ℕ) (q : Question) → walkOf s ≡ walked q → Met s
 met-walked s q w =
@@ -285,7 +285,14 @@ met-walked s q w =
         let g = admitted-good (q .line1) ea in
         let h = admitted-good (q .line2) eb in
         faulty 19 0 (inMemory q w g h (fine-good q g h ec) (inr ee) refl refl)
-    go true ea true eb true ec true ed true ee = opens q w (tested-as q ea eb ec ed ee)
+    go true ea true eb true ec true ed true ee =
+        let g = admitted-good (q .line1) ea in
+        let h = admitted-good (q .line2) eb in
+        opens q w (record { first = g; second = h; question = fine-good q g h ec; room = never ed ee }) (tested-as q ea eb ec ed ee)
+      where
+        never : piecesFit q (zeros 8112) (zeros 8112) ≡ true → enough (needed (x q)) (sizes lent) ≡ true → Short q → ⊥
+        never ed ee (inl e) = false≢true (sym e ∙ ed)
+        never ed ee (inr e) = false≢true (sym e ∙ ee)
 
 pub met : (s : List ℕ) → Met s
 met s = go (walkOf s) refl

@@ -24,6 +24,7 @@ use Rattle.coverage.proofs.Complete.{loop-ends, complete-is-clear, loop-reports
 use Rattle.walks.specs.Sheets.{walked, walkOf}
 use Rattle.sheet.specs.Answers.{zeros, lent, reportedText, reportText, steppedText, searchText, openedText, linesText, walkedText, answerOf}
 use Rattle.whole.specs.Whole.{Printed, refused, reported, Whole}
+use Rattle.whole.specs.Refusals.{Faultless}
 use Rattle.whole.proofs.Refusals.{Met, faulty, opens, met, fault-numbered, fault-printed}
 
 -- ---- an open search: the loop ends, and its report is printed
@@ -32,7 +33,7 @@ raw-room q x e =
     opened-fresh q (zeros 8112) (zeros 8112) lent x (λ (y : State) (m : Memory). y .pairs * suc (y .quota) * 10 ≤ length (zeros 8190))
     (λ F room. room-of (searchFor q) (sizes lent) room .raw) e
 
-module _ (s : List ℕ) (q : Question) (walk : walkOf s ≡ walked q) where
+module _ (s : List ℕ) (q : Question) (walk : walkOf s ≡ walked q) (good : Faultless q) where
   o : Opening
   o = openDef q (zeros 8112) (zeros 8112) lent
 
@@ -48,7 +49,7 @@ module _ (s : List ℕ) (q : Question) (walk : walkOf s ≡ walked q) where
       let m = runDef geometry x (o .memory) .memory in
       let r = reportDef geometry y m (zeros 8190) in
       let R = loop-reports q (zeros 8112) (zeros 8112) lent x y e (L .answer) (zeros 8190) (raw-room q x e) in
-      reported q walk r R
+      reported q walk good r R
       (printed-lines ∙ ap (λ (a : Opened). openedText a (o .memory) (zeros 8190)) e ∙ ap (λ (a : Stepped). steppedText a m (zeros 8190)) (L .answer)
       ∙ ap (λ (a : Reported). reportedText a (r .slice)) (R .told))
       (λ c. complete-is-clear q (zeros 8112) (zeros 8112) lent x y e (L .answer) (zeros 8190) (R .counts) (R .regions)
@@ -60,4 +61,4 @@ whole s = go (met s)
   where
     go : Met s → Printed s
     go (faulty n place f) = refused n place (fault-numbered s n place f) f (fault-printed s n place f)
-    go (opens q e h) = open-printed s q e _ h
+    go (opens q e g h) = open-printed s q e g _ h

@@ -34,6 +34,13 @@ GoodQuestion q = (n : ℕ × ℕ) → QuestionFault n q → ⊥
 abbrev pub Short : Question → Type 0
 Short q = (piecesFit q (zeros 8112) (zeros 8112) ≡ false) ⊎ (enough (needed (stateOf (searchFor q) (start (searchFor q)))) (sizes lent) ≡ false)
 
+-- no fault in the lines and the question, and each lent slice is long enough
+pub record Faultless (q : Question) : Type 0 where
+  pub first : GoodLine (q .line1)
+  pub second : GoodLine (q .line2)
+  pub question : GoodQuestion q
+  pub room : Short q → ⊥
+
 -- The table's places, in this order: the sheet; the first line, then the second; the question; the lent memory. The fault of each is the first row that it meets.
 pub data Fault (s : List ℕ) (n place : ℕ) : Type 0 where
   inSheet : walkOf s ≡ refusedAs n → place ≡ 0 → Fault s n place
