@@ -10,7 +10,7 @@ use lib.Ieee.{Float, nan, inf, fin, up, down, lt, eq, le}
 use lib.Ieee.Fits.{down-pos, and-l, and-r, and-i, eq→eqb}
 use lib.Ieee.Positive.{through}
 use lib.Ieee.Bits.{is-true}
-use Rattle.floats.specs.Floats.{least, greatest, Skips}
+use Rattle.floats.specs.Floats.{least, greatest, Skips, Extremes}
 use Rattle.floats.specs.Sizes.{Number}
 
 -- ±a ≤ ±b
@@ -226,3 +226,16 @@ greatest-is x y p q = go (le y x) (eq y y) refl refl
     go true c e f = record { left = le-self x p; right = subst T (sym e) tt; number = p }
     go false true e f = record { left = other-way y x q p e; right = le-self y q; number = q }
     go false false e f = absurd (subst T f (eq-self y q))
+
+-- either is the first or the second, whatever the two tests give
+one-of : (x y : Float) (b c : Bool) → (cond b x (cond c y x) ≡ x) ⊎ (cond b x (cond c y x) ≡ y)
+one-of x y true c = inl refl
+one-of x y false true = inr refl
+one-of x y false false = inl refl
+
+pub extremes : Extremes
+unfolding least greatest
+extremes x y p q =
+    let l = least-is x y p q in
+    let g = greatest-is x y p q in
+    ((l .left, l .right, one-of x y (le x y) (eq y y)), (g .left, g .right, one-of x y (le y x) (eq y y)))

@@ -1,7 +1,10 @@
 -- Least and greatest, ranges and middles of doubles (document 01, module Floats). Definitions only.
 use mathlib.Core.Path.{_≡_}
+use mathlib.Core.Logic.{_⊎_}
 use mathlib.Core.Bool.{Bool, false, cond}
+use lib.Dec.{T}
 use lib.Ieee.{Float, nan, binary64, add, mul, le, eq, ofBits}
+use Rattle.floats.specs.Sizes.{Number}
 
 -- Rust's `f64::min` and `f64::max`: a NaN is skipped. Of two equal numbers, as the zeros, the first; the Rust leaves the sign of a zero open here.
 unfoldable pub least : Float → Float → Float
@@ -13,6 +16,12 @@ greatest a b = cond (le b a) a (cond (eq b b) b a)
 -- "Least and greatest skip a NaN": beside a NaN, on either side, the other one is taken.
 abbrev pub Skips : Type 0
 Skips = (x : Float) → (least x nan ≡ x) × (least nan x ≡ x) × (greatest x nan ≡ x) × (greatest nan x ≡ x)
+
+-- Of two numbers the least is at most each and the greatest at least each, and either is one of the two.
+abbrev pub Extremes : Type 0
+Extremes = (a b : Float) → Number a → Number b →
+    (T (le (least a b) a) × T (le (least a b) b) × ((least a b ≡ a) ⊎ (least a b ≡ b)))
+    × (T (le a (greatest a b)) × T (le b (greatest a b)) × ((greatest a b ≡ a) ⊎ (greatest a b ≡ b)))
 
 -- from lo to hi, ends included; no NaN is
 unfoldable pub within : Float → Float → Float → Bool
