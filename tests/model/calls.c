@@ -275,6 +275,7 @@ static int report(const State *s, const Lent *m, Told *t)
 static int take_given(const Given *g, Line *l)
 {
     int fault;
+    l->closed = 0; /* the calls take open lines */
     l->degree = g->degree;
     l->rational = g->weight_count > 0;
     l->knot_count = (uint32_t)g->knot_count;
@@ -300,7 +301,7 @@ static int call_open(const Given given[2], const double range[2][2], double gap,
 {
     static Sheet sheet;
     static Search breaks; /* for its breaks, widths and counts of pieces */
-    static double boxes[2][MAX_KNOTS + 1][6];
+    static double boxes[2][MAX_PIECES][6];
     State first = { 0 };
     Refusal r;
     uint64_t pairs = 0;
@@ -309,6 +310,7 @@ static int call_open(const Given given[2], const double range[2][2], double gap,
         fault = take_given(&given[i], &sheet.line[i]);
         if (fault) return fault + 256 * (i + 1);
         fill_flat(&sheet.line[i]);
+        fill_list(&sheet.line[i]);
     }
     memcpy(sheet.range, range, sizeof sheet.range);
     sheet.gap = gap;

@@ -1,7 +1,7 @@
 /*
- * The sheet program of document 01: two open B-splines, a stretch of each and
- * a gap; the answer is a verdict with the regions that could not be cleared,
- * or a refusal with its number.
+ * The sheet program of document 01 with document 02's M-100: two B-splines,
+ * open or closed, a stretch of each and a gap; the answer is a verdict with the
+ * regions that could not be cleared, or a refusal with its number.
  *
  *   clearance < SHEET            prints the answer
  *   clearance --pieces < SHEET   the answer, then the net of every piece
@@ -13,7 +13,8 @@
  *
  * Every sum, difference, product and quotient is one IEEE 754 double operation
  * in the order of the Rust source; sqrt is the correctly rounded root.
- * "01" in a comment is document 01 (01-scope.md), with the module's name.
+ * "01" in a comment is document 01 (01-scope.md), with the module's name;
+ * "02" is document 02 (02-change-requests.md), paragraph M-100.
  */
 #include <float.h>
 #include <math.h>
@@ -33,6 +34,9 @@ enum {
     MAX_WIDTH = MAX_DEGREE + 1,
     MAX_KNOTS = 128,
     MAX_POLES = 128,
+    MAX_LIST = 2 * MAX_KNOTS - 1, /* knots of a closed line, two turns */
+    MAX_PIECES = MAX_LIST,        /* the first knot is never strictly between */
+    MAX_BREAKS = MAX_PIECES + 1,
     MAX_SPLITS = 256,
     MAX_DEPTH = 64
 };
@@ -54,6 +58,7 @@ enum {
 };
 
 typedef struct {
+    int closed;
     uint32_t degree;
     uint32_t knot_count, mult_count, pole_count, weight_count;
     int rational; /* whether the sheet gives weights */
@@ -61,7 +66,10 @@ typedef struct {
     uint32_t mults[MAX_WORDS];
     double poles[MAX_WORDS / 2]; /* x, y, z of each pole */
     double weights[MAX_WORDS / 2];
-    double flat[MAX_POLES + MAX_WIDTH]; /* knots with repeats, once admitted */
+    /* once admitted: */
+    double flat[MAX_POLES + MAX_WIDTH]; /* knots with repeats */
+    double list[MAX_LIST];              /* knots of a closed line, two turns */
+    uint32_t list_count;
 } Line;
 
 typedef struct {
@@ -95,7 +103,7 @@ static int within(double lo, double x, double hi)
 /* ---- Sheet walk: numbers 1, 2 and 3 (01, table and Sheet program) ------ */
 
 enum { KIND_LINE = 1, KIND_KNOTS, KIND_MULTS, KIND_POLES, KIND_WEIGHTS,
-       KIND_QUESTION, KIND_END };
+       KIND_QUESTION, KIND_END, KIND_CLOSED };
 
 typedef struct {
     const uint32_t *words;
@@ -144,9 +152,16 @@ static int take_weights(Walk *w, Line *l)
     return take_floats(w, l->weight_count, l->weights);
 }
 
+/* 02: "kind 8 in the place of kind 1, its count the degree". */
+static int take_degree(Walk *w, Line *l)
+{
+    l->closed = w->at < w->count && w->words[w->at] >> 28 == KIND_CLOSED;
+    return take_head(w, l->closed ? KIND_CLOSED : KIND_LINE, &l->degree);
+}
+
 static int take_line(Walk *w, Line *l)
 {
-    int no = take_head(w, KIND_LINE, &l->degree);
+    int no = take_degree(w, l);
     if (!no) no = take_head(w, KIND_KNOTS, &l->knot_count);
     if (!no) no = take_floats(w, l->knot_count, l->knots);
     if (!no) no = take_head(w, KIND_MULTS, &l->mult_count);
@@ -197,7 +212,7 @@ static int walk_sheet(const unsigned char *bytes, size_t length, Sheet *s)
     return no;
 }
 
-/* ---- Admission of a line: numbers 4 to 14 (01, table) ------------------ */
+/* ---- Admission of a line: numbers 4 to 14 and 22 (01, table; 02) ------- */
 
 static int knots_in_limits(const Line *l)
 {
@@ -213,10 +228,17 @@ static int knots_rise(const Line *l)
     return 1;
 }
 
+/* 02: "equal end multiplicities". */
+static int ends_alike(const Line *l)
+{
+    return l->mults[0] == l->mults[l->mult_count - 1];
+}
+
+/* 02 of a closed line: "none above the degree". */
 static int mults_in_limits(const Line *l)
 {
     for (uint32_t i = 0; i < l->mult_count; i++) {
-        int end = i == 0 || i == l->mult_count - 1;
+        int end = !l->closed && (i == 0 || i == l->mult_count - 1);
         if (l->mults[i] > (end ? l->degree + 1 : l->degree)) return 0;
     }
     return 1;
@@ -229,10 +251,13 @@ static int mults_above_zero(const Line *l)
     return 1;
 }
 
+/* 02 of a closed line: "poles = sum - last multiplicity". */
 static int pole_count_fits(const Line *l)
 {
     int64_t sum = 0;
     for (uint32_t i = 0; i < l->mult_count; i++) sum += l->mults[i];
+    if (l->closed)
+        return (int64_t)l->pole_count == sum - l->mults[l->mult_count - 1];
     return (int64_t)l->pole_count == sum - l->degree - 1;
 }
 
@@ -252,6 +277,7 @@ static int line_fault(const Line *l)
     if (n < 2 || n > MAX_KNOTS || l->mult_count != n) return 5;
     if (!knots_in_limits(l)) return 6;
     if (!knots_rise(l)) return 7;
+    if (l->closed && !ends_alike(l)) return 22;
     if (!mults_in_limits(l)) return 8;
     if (!mults_above_zero(l)) return 9;
     if (!pole_count_fits(l)) return 10;
@@ -275,25 +301,57 @@ static void fill_flat(Line *l)
         for (uint32_t m = 0; m < l->mults[i]; m++) l->flat[n++] = l->knots[i];
 }
 
+/* A closed line's first and last knot, and the length between. */
+static double first_knot(const Line *l)
+{
+    return l->knots[0];
+}
+
+static double last_knot(const Line *l)
+{
+    return l->knots[l->knot_count - 1];
+}
+
+static double period(const Line *l)
+{
+    return last_knot(l) - first_knot(l);
+}
+
+/* The knots, one each; 02 of a closed line: "After the last knot each knot but
+ * the first comes again, at knot + period rounded". */
+static void fill_list(Line *l)
+{
+    uint32_t n = 0;
+    for (uint32_t i = 0; i < l->knot_count; i++) l->list[n++] = l->knots[i];
+    if (l->closed)
+        for (uint32_t i = 1; i < l->knot_count; i++)
+            l->list[n++] = l->knots[i] + period(l);
+    l->list_count = n;
+}
+
 /* ---- Question: numbers 15 to 18 (01, table) ---------------------------- */
 
 /* Whether the range is finite, rises and keeps to the line's bounds: flat
- * knots number degree and number poles. */
+ * knots number degree and number poles. 02: a closed line's range "starts in
+ * [first knot, last knot) and is, as rounded, no longer than the period". */
 static int range_fits(const Line *l, const double range[2])
 {
     double lo = range[0], hi = range[1];
     if (!isfinite(lo) || !isfinite(hi) || lo >= hi) return 0;
+    if (l->closed)
+        return first_knot(l) <= lo && lo < last_knot(l) && hi - lo <= period(l);
     return l->flat[l->degree] <= lo && hi <= l->flat[l->pole_count];
 }
 
-/* The breaks: lo, each knot strictly between, hi (01, Pieces). */
+/* The breaks: lo, each knot of the list strictly between, hi (01, Pieces). A
+ * closed line's list may repeat or fall by rounding: number 18 meets it. */
 static int fill_breaks(const Line *l, const double range[2], double *breaks)
 {
     int n = 0;
     breaks[n++] = range[0];
-    for (uint32_t i = 0; i < l->knot_count; i++)
-        if (range[0] < l->knots[i] && l->knots[i] < range[1])
-            breaks[n++] = l->knots[i];
+    for (uint32_t i = 0; i < l->list_count; i++)
+        if (range[0] < l->list[i] && l->list[i] < range[1])
+            breaks[n++] = l->list[i];
     breaks[n++] = range[1];
     return n;
 }
@@ -314,26 +372,69 @@ static int breaks_have_middles(const double *breaks, int n)
 
 /* ---- Pieces (01, Pieces) ----------------------------------------------- */
 
-/* The flat knot that opens the span holding u (span); u lies strictly
- * between two breaks, so inside a span with length. */
+/* The number of the list's knot that opens the span around t (span_around). */
+static uint32_t list_span(const Line *l, double t)
+{
+    uint32_t j = 1;
+    while (j < l->list_count - 1 && l->list[j] <= t) j++;
+    return j - 1;
+}
+
+/* x, or a where x leaves [a, b). */
+static double start_unless(double a, double b, double x)
+{
+    return a <= x && x < b ? x : a;
+}
+
+/* 02: "u - period x floor((u - first) / period), each operation rounded, and
+ * first where that leaves [first, last)". */
+static double in_period(const Line *l, double u)
+{
+    double turns = floor((u - first_knot(l)) / period(l));
+    return start_unless(first_knot(l), last_knot(l), u - period(l) * turns);
+}
+
+/* Where the net of the piece around t is made. The list decides the span, for
+ * the net as for the cut: by rounding in_period may leave it, and then the
+ * span's start stands. */
+static double place(const Line *l, double t)
+{
+    uint32_t i;
+    if (!l->closed) return t;
+    i = list_span(l, t) % (l->knot_count - 1);
+    return start_unless(l->knots[i], l->knots[i + 1], in_period(l, t));
+}
+
+/* Flat knot i, counted from the first of a turn. On a closed line they go on
+ * either way, a period on or back; at the seam itself the end knots stand. */
+static double flat_knot(const Line *l, int i)
+{
+    int n = (int)l->pole_count;
+    if (l->closed && i < 0) return l->flat[i + n] - period(l);
+    if (l->closed && i >= n + (int)l->mults[0]) return l->flat[i - n] + period(l);
+    return l->flat[i];
+}
+
+/* The flat knot that opens the span holding u (span); u lies in a span with
+ * length. */
 static uint32_t find_span(const Line *l, double u)
 {
-    uint32_t s = l->degree;
+    uint32_t s = l->closed ? l->mults[0] - 1 : l->degree;
     while (s + 1 < l->pole_count && l->flat[s + 1] <= u) s++;
     return s;
 }
 
 /* The 2 * degree knots around the span of u, relative to u (span_knots);
- * gives the first pole of the span. The span runs from around[degree - 1] to
- * around[degree]. */
+ * gives the first pole of the span: a closed line's first span has pole 0 first.
+ * The span runs from around[degree - 1] to around[degree]. */
 static uint32_t knots_around(const Line *l, double u, double *around)
 {
-    uint32_t p = l->degree, s = find_span(l, u);
-    for (uint32_t j = 1; j <= p; j++) {
-        around[p - j] = -(u - l->flat[s + 1 - j]);
-        around[p - 1 + j] = l->flat[s + j] - u;
+    int p = (int)l->degree, s = (int)find_span(l, u);
+    for (int j = 1; j <= p; j++) {
+        around[p - j] = -(u - flat_knot(l, s + 1 - j));
+        around[p - 1 + j] = flat_knot(l, s + j) - u;
     }
-    return s - p;
+    return (uint32_t)(l->closed ? s + 1 - (int)l->mults[0] : s - p);
 }
 
 /* Row k of the matrix from the span's poles to its Bernstein points: the
@@ -356,9 +457,11 @@ static void bezier_row(const double *around, int p, int k, double *row)
     memcpy(row, d[p], (size_t)(p + 1) * sizeof *row);
 }
 
-/* (x w, y w, z w, w) of pole i; no weights means every weight is 1. */
+/* (x w, y w, z w, w) of pole i; no weights means every weight is 1. A closed
+ * line's poles come again after the last. */
 static void homogeneous(const Line *l, uint32_t i, double out[4])
 {
+    i %= l->pole_count;
     double w = l->rational ? l->weights[i] : 1.0;
     for (int c = 0; c < 3; c++) out[c] = l->poles[3 * i + c] * w;
     out[3] = w;
@@ -379,15 +482,6 @@ static void span_bezier(const Line *l, double u, double *net)
             for (int c = 0; c < 4; c++) net[4 * k + c] += row[j] * pole[c];
         }
     }
-}
-
-/* The distinct knots below and above u (span_around). */
-static void span_around(const Line *l, double u, double *a, double *b)
-{
-    uint32_t j = 1;
-    while (j < l->knot_count - 1 && l->knots[j] <= u) j++;
-    *a = l->knots[j - 1];
-    *b = l->knots[j];
 }
 
 /* out = a + f (b - a), point by point. */
@@ -417,9 +511,10 @@ static void restrict_net(double *net, int p, double f0, double f1)
 /* The net of the piece from t0 to t1 (CurvePieces::new). */
 static void fill_piece(const Line *l, double t0, double t1, double *net)
 {
-    double a, b, u = middle(t0, t1);
-    span_bezier(l, u, net);
-    span_around(l, u, &a, &b);
+    double t = middle(t0, t1);
+    uint32_t i = list_span(l, t);
+    double a = l->list[i], b = l->list[i + 1];
+    span_bezier(l, place(l, t), net);
     restrict_net(net, (int)l->degree, (t0 - a) / (b - a), (t1 - a) / (b - a));
 }
 
@@ -604,7 +699,7 @@ typedef struct {
     double gap;
     uint32_t width[2];
     uint32_t piece_count[2];
-    double breaks[2][MAX_KNOTS];
+    double breaks[2][MAX_BREAKS];
     double pieces[2][LENT_PIECES];
     double nets[2][LENT_NETS];  /* node k owns slot k on both lines */
     double ranges[LENT_RANGES]; /* 4 a node: first lo, hi, second lo, hi */
@@ -666,7 +761,7 @@ static void push_pair(Search *s, uint32_t i, uint32_t j)
  * ascending, then the second's; pushes them too if asked. */
 static uint64_t for_pairs(Search *s, int push)
 {
-    static double boxes[2][MAX_KNOTS][6];
+    static double boxes[2][MAX_PIECES][6];
     uint64_t pairs = 0;
     Hull h;
     for (int k = 0; k < 2; k++)
@@ -907,7 +1002,7 @@ static Refusal ask(const Sheet *sheet, Search *s)
     return refusal(0, 0);
 }
 
-/* Numbers 1 to 19 in the table's order; number 0 leaves an open search. */
+/* Numbers 1 to 19 and 22 in the table's order; number 0 leaves an open search. */
 static Refusal open_sheet(const unsigned char *bytes, size_t length,
                           Sheet *sheet, Search *s)
 {
@@ -917,6 +1012,7 @@ static Refusal open_sheet(const unsigned char *bytes, size_t length,
         int no = line_fault(&sheet->line[k]);
         if (no) return refusal(no, k + 1);
         fill_flat(&sheet->line[k]);
+        fill_list(&sheet->line[k]);
     }
     r = ask(sheet, s);
     if (r.number) return r;
