@@ -10,6 +10,8 @@ once a sheet. Answers are compared byte for byte with the first program's.
   --pieces      compare the nets of the pieces too (each program is run once a
                 sheet, with --pieces)
   --no-drawn    leave the drawn sheets out
+  --closed      with closed lines (document 02, M-100): the drawn ones too, and
+                every third of the random sheets
   --replay DIR  take the sheets from DIR/sheets.bin and hold every program
                 against DIR/answers.txt; SEED and N are left out
   --save DIR    where sheets with a difference are saved (default: .)
@@ -136,17 +138,20 @@ def replay(folder):
     return [('replay %d' % i, d, a) for i, (d, a) in enumerate(zip(data, answers))]
 
 
-def generated(seed, count, with_drawn):
+def generated(seed, count, with_drawn, closed):
+    if with_drawn and closed:
+        for name, data in sheets.closed_drawn():
+            yield 'drawn ' + name, data, None
     if with_drawn:
         for name, data in sheets.drawn():
             wanted = sheets.EXAMPLE_ANSWER if name == 'example' else None
             yield 'drawn ' + name, data, wanted
-    for i, (kind, data) in enumerate(sheets.random_sheets(seed, count)):
+    for i, (kind, data) in enumerate(sheets.random_sheets(seed, count, closed)):
         yield 'random %d (%s, seed %d)' % (i, kind, seed), data, None
 
 
 def main(args):
-    flags = {'--pieces': False, '--no-drawn': False, '--replay': None, '--save': '.'}
+    flags = {'--pieces': False, '--no-drawn': False, '--closed': False, '--replay': None, '--save': '.'}
     while args and args[0] in flags:
         flag = args.pop(0)
         flags[flag] = args.pop(0) if flag in ('--replay', '--save') else True
@@ -154,7 +159,7 @@ def main(args):
         source = replay(flags['--replay'])
     elif len(args) >= 3:
         seed, count = int(args.pop(0)), int(args.pop(0))
-        source = generated(seed, count, not flags['--no-drawn'])
+        source = generated(seed, count, not flags['--no-drawn'], flags['--closed'])
     if not args:
         sys.exit(__doc__)
     if flags['--pieces'] and not flags['--replay']:

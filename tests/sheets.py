@@ -7,14 +7,18 @@
                                     32-bit length and the bytes
   sheets.py --replay DIR PROGRAM    writes DIR/sheets.bin and, from the answers
                                     of PROGRAM, DIR/answers.txt
+  sheets.py --closed ...            the same with closed lines (document 02,
+                                    M-100): --list, --many (every third sheet)
+                                    and --replay
 
 From another script:
 
   a = line(1, [0, 1], [2, 2], [(0, 0, 0), (2, 2, 0)])
   b = line(2, [0, 1, 2], [3, 1, 3], poles, weights)
+  c = ring(1, [0, 1, 2, 3], [1, 1, 1, 1], [(0, 0, 0), (4, 0, 0), (0, 3, 0)])
   data = sheet(a, b, S=256, ranges=[(0, 1), (0, 2)], gap=0.5)
 
-Ranges that are not given are the bounds of the lines.
+Ranges that are not given are the bounds of the lines, of a closed one a turn.
 """
 import math
 import os
@@ -47,28 +51,31 @@ def words(values):
 class Line:
     """A line's description; the fields may hold anything a sheet can hold."""
 
-    def __init__(self, degree, knots, mults, poles, weights=None):
+    def __init__(self, degree, knots, mults, poles, weights=None, closed=False):
         self.degree = degree
         self.knots = list(knots)
         self.mults = list(mults)
         self.poles = [tuple(p) for p in poles]
         self.weights = None if weights is None else list(weights)
+        self.closed = closed
 
     def copy(self):
-        return Line(self.degree, self.knots, self.mults, self.poles, self.weights)
+        return Line(self.degree, self.knots, self.mults, self.poles, self.weights, self.closed)
 
     def flat(self):
         return [k for k, m in zip(self.knots, self.mults) for _ in range(min(m, 200))]
 
     def bounds(self):
-        """Flat knots number degree and number poles, where there are such."""
+        """Flat knots number degree and number poles, where there are such; a closed line's first and last knot."""
+        if self.closed and self.knots:
+            return (self.knots[0], self.knots[-1])
         flat = self.flat()
         if len(flat) <= max(self.degree, len(self.poles)):
             return (0.0, 1.0)
         return (flat[self.degree], flat[len(self.poles)])
 
     def data(self):
-        out = [head(1, self.degree), head(2, len(self.knots)), floats(self.knots),
+        out = [head(8 if self.closed else 1, self.degree), head(2, len(self.knots)), floats(self.knots),
                head(3, len(self.mults)), words(self.mults), head(4, len(self.poles))]
         out += [floats(p) for p in self.poles]
         if self.weights is not None:
@@ -78,6 +85,11 @@ class Line:
 
 def line(degree, knots, mults, poles, weights=None):
     return Line(degree, knots, mults, poles, weights)
+
+
+def ring(degree, knots, mults, poles, weights=None):
+    """A closed line."""
+    return Line(degree, knots, mults, poles, weights, closed=True)
 
 
 def segment(p, q, lo=0.0, hi=1.0):
@@ -664,6 +676,262 @@ def drawn():
         yield 'example-' + name, make()
 
 
+# ---- drawn sheets with closed lines (document 02, M-100) ---------------------------
+
+
+def beside(x, n):
+    """The double n doubles above x, or below for a negative n."""
+    bits = struct.unpack('<q', struct.pack('<d', x))[0]
+    at = (bits if bits >= 0 else -(bits & 0x7FFFFFFFFFFFFFFF)) + n
+    return math.copysign(struct.unpack('<d', struct.pack('<q', abs(at)))[0], at)
+
+
+def period(l):
+    return l.knots[-1] - l.knots[0]
+
+
+def round_poles(n, radius=10.0):
+    """n poles round the z axis."""
+    return [(round(radius * math.cos(2 * math.pi * i / n), 3), round(radius * math.sin(2 * math.pi * i / n), 3), i % 3 * 0.5)
+            for i in range(n)]
+
+
+def basin(degree, seam, spans, knots=None, inner=1, weights=None):
+    """A ring of so many spans; both ends have the seam's multiplicity."""
+    knots = [float(i) for i in range(spans + 1)] if knots is None else knots
+    mults = [seam] + [inner] * (spans - 1) + [seam]
+    return ring(degree, knots, mults, round_poles(sum(mults) - seam), weights)
+
+
+def from_to(l, lo, length):
+    """The range from lo of a length, its end rounded."""
+    return (lo, lo + length)
+
+
+TRIANGLE = ring(1, [0, 1, 2, 3], [1, 1, 1, 1], [(0, 0, 0), (4, 0, 0), (0, 3, 0)])
+SQUARE = ring(1, [0, 1, 2, 3, 4], [1, 1, 1, 1, 1], [(0, 0, 0), (8, 0, 0), (8, 8, 0), (0, 8, 0)])
+SPOKE = segment((-1, 2, 0), (30, 3, 1))
+
+
+def turns():
+    """Every multiplicity of the seam; whole turns and stretches over the seam from
+    a knot, from inside a span and from the doubles beside a knot."""
+    for degree in (1, 2, 3, 4, 5):
+        for seam in range(1, degree + 1):
+            l = basin(degree, seam, degree + 2)
+            for name, lo in (('first', 0.0), ('knot', 2.0), ('inside', 1.375), ('after', beside(2.0, 1)), ('below', beside(2.0, -1)),
+                             ('last-span', degree + 1.25), ('below-last', beside(degree + 2.0, -2))):
+                for part, length in (('turn', period(l)), ('half', 0.5 * period(l)), ('span', 1.0)):
+                    yield 'ring-%d-%d-%s-%s' % (degree, seam, name, part), sheet(l, SPOKE, S=3, ranges=[from_to(l, lo, length), None])
+    for degree, seam, spans in ((8, 1, 9), (8, 5, 4), (8, 8, 2), (25, 1, 26), (25, 25, 2), (25, 13, 14)):
+        l = basin(degree, seam, spans)
+        yield 'ring-%d-%d' % (degree, seam), sheet(l, SPOKE, S=0)
+        yield 'ring-%d-%d-over' % (degree, seam), sheet(SPOKE, l, S=0, ranges=[None, (spans - 0.5, spans + 0.75)])
+
+
+def seams():
+    """Rings against each other, with weights, inner multiplicities, far knots."""
+    for i, (a, b) in enumerate([(TRIANGLE, SQUARE), (SQUARE, TRIANGLE), (TRIANGLE, TRIANGLE), (SQUARE, A), (A, SQUARE)]):
+        for lo in (0.0, 0.5, 2.5):
+            ranges = [from_to(l, lo, period(l)) if l.closed else None for l in (a, b)]
+            yield 'closed-pair-%d-%g' % (i, lo), sheet(a, b, S=2, ranges=ranges)
+    for degree in (1, 2, 3):
+        for inner in range(1, degree + 1):
+            l = basin(degree, degree, 4, inner=inner)
+            l.weights = [1.0 + i % 3 * 0.5 for i in range(len(l.poles))]
+            yield 'closed-weights-%d-%d' % (degree, inner), sheet(l, SPOKE, S=4)
+            yield 'closed-weights-%d-%d-over' % (degree, inner), sheet(l, SPOKE, S=4, ranges=[(3.3, 5.9), None])
+    for lo in (0.0, 3.3):
+        for i, m in enumerate(([1, 2, 1, 3, 1], [2, 1, 3, 1, 2], [3, 1, 2, 1, 3], [1, 3, 3, 3, 1])):
+            l = ring(3, [0, 1, 2, 3, 4], m, round_poles(sum(m) - m[0]))
+            yield 'closed-mults-%d-%g' % (i, lo), sheet(l, SPOKE, S=6, ranges=[from_to(l, lo, 4.0), None])
+    far = [-BINADE(20), -3.0, 0.5, BINADE(20)]
+    for lo in (far[0], -7.5, 0.5, 9.0):
+        l = basin(2, 1, 3, far)
+        yield 'closed-far-%g' % lo, sheet(l, SPOKE, S=2, ranges=[from_to(l, lo, period(l)), None])
+    # few poles: the knots of a span come round more than once
+    for degree, m in ((2, [2, 1, 2]), (3, [3, 1, 3]), (3, [2, 2, 2]), (3, [1, 3, 1]), (5, [3, 3, 3]), (5, [1, 5, 1]), (2, [1, 1, 1, 1])):
+        l = ring(degree, [0.0, 0.75, 2.0, 2.5][:len(m)], m, round_poles(sum(m) - m[0]))
+        for lo in (0.0, 1.9):
+            yield 'closed-least-%d-%d-%g' % (degree, m[0], lo), sheet(l, SPOKE, S=2, ranges=[from_to(l, lo, period(l)), None])
+
+
+ROUNDING = [[-0.7, -0.3, 0.1, 0.3, 0.6], [-0.697481702000372, -0.5, -0.1, 0.45022719274630707], [0.1, 0.2, 0.3, 0.7],
+            [-0.1, 0.05, 1 / 3, 0.9], [1e-3, 0.1, 17.3, 1000.1], [-1000.3, -7.7, 0.1, 3.3], [-1.0, 0.0, 1.0, 2.0]]
+
+
+def rounded_periods():
+    """Periods that round: first + period isn't last, or in_period leaves the turn."""
+    for i, knots in enumerate(ROUNDING):
+        n = len(knots) - 1
+        for degree, seam in ((1, 1), (2, 1), (2, 2), (3, 2)):
+            l = basin(degree, seam, n, knots, inner=2 if degree == 3 else 1)
+            if len(l.poles) <= degree:
+                continue
+            last = knots[-1]
+            for name, r in (('turn', (knots[0], last)), ('inner', from_to(l, knots[1], period(l))),
+                            ('past', (beside(last, -3), beside(last, 5))), ('below', (beside(last, -4), last)),
+                            ('over', from_to(l, 0.5 * (knots[n - 1] + last), 0.5 * period(l)))):
+                yield 'rounded-%d-%d-%d-%s' % (i, degree, seam, name), sheet(l, SPOKE, S=1, ranges=[r, None])
+    yield 'rounded-to-turn', sheet(basin(1, 1, 3, ROUNDING[6]), SPOKE, S=0, ranges=[(beside(2.0, -2), 3.0), None])
+
+
+E43 = BINADE(-43)
+LAST_SIDE = ring(1, [-1000.0, -1.0, 0.0, BINADE(-60)], [1] * 4, [(0, 0, 0), (1000, 0, 0), (1000, 1000, 0)])
+FIRST_SIDE = ring(1, [-1000 + E43, -1000 + 2 * E43, -500.0, 0.0, 1 + E43], [1] * 5,
+                  [(0, 0, 0), (1000, 0, 0), (1000, 1000, 0), (0, 1000, 0)])
+
+
+def lost_spans():
+    """Spans that in_period alone doesn't find: a kilometre of the ring is crossed."""
+    last, first = segment((300, 500, 0), (500, 300, 0)), segment((500, -1, 0), (500, 1, 0))
+    for s in (0, 20):
+        yield 'lost-last-S%d' % s, sheet(LAST_SIDE, last, S=s, ranges=[(-1000.0, BINADE(-60)), None], gap=1.0)
+        yield 'lost-last-second-S%d' % s, sheet(last, LAST_SIDE, S=s, ranges=[None, (-1000.0, BINADE(-60))], gap=1.0)
+        yield 'lost-first-S%d' % s, sheet(FIRST_SIDE, first, S=s, ranges=[(-400.0, 600.0), None])
+        yield 'lost-first-second-S%d' % s, sheet(first, FIRST_SIDE, S=s, ranges=[None, (-400.0, 600.0)])
+
+
+def closed_faults():
+    """22 and the numbers around it, on either line."""
+    good = lambda: basin(2, 2, 3)
+    faults = {22: lambda l: l.mults.__setitem__(0, 1)}
+    faults[4] = lambda l: setattr(l, 'degree', 26)
+    faults[5] = lambda l: l.mults.insert(1, 1)
+    faults[6] = lambda l: l.knots.__setitem__(2, NAN)
+    faults[7] = lambda l: l.knots.__setitem__(1, l.knots[0])
+    faults[8] = lambda l: l.mults.__setitem__(1, 3)
+    faults[9] = lambda l: l.mults.__setitem__(1, 0)
+    faults[10] = lambda l: l.poles.append((1, 1, 1))
+    faults[12] = lambda l: setattr(l, 'weights', [1.0] * 9)
+    faults[13] = lambda l: setattr(l, 'weights', [0.0] * len(l.poles))
+    faults[14] = lambda l: l.poles.__setitem__(0, (NAN, 0, 0))
+    for number, spoil in faults.items():
+        for name, other in [('alone', None)] + ([('with-%d' % n, f) for n, f in faults.items()] if number == 22 else []):
+            l = good()
+            spoil(l)
+            if other is not None and other is not spoil:
+                other(l)
+            yield 'closed-no%d-%s' % (number, name), sheet(l, A, ranges=[(0, 1), None])
+            yield 'closed-no%d-%s-second' % (number, name), sheet(A, l, ranges=[None, (0, 1)])
+    wrong = basin(2, 2, 3)
+    wrong.mults[-1] = 1
+    for name, (a, b) in {'22-22': (wrong, wrong), '22-4': (wrong, line(0, [], [], [])), '14-22': (segment((NAN, 0, 0), (1, 0, 0)), wrong)}.items():
+        yield 'closed-' + name, sheet(a, b, ranges=[(0, 1), (0, 1)])
+    yield 'closed-22-15', sheet(wrong, A, ranges=[(9, 1), None])
+    # end multiplicities: huge ones, one over the degree, 0, and an open line's
+    for name, degree, m in (('huge-first', 1, [0xFFFFFFFF, 1, 1]), ('huge-last', 1, [1, 1, 0xFFFFFFFF]), ('huge', 1, [0xFFFFFFFF, 1, 0xFFFFFFFF]),
+                            ('over', 2, [3, 1, 3]), ('over-1', 1, [2, 1, 2]), ('full', 2, [2, 2, 2]), ('zero', 1, [0, 2, 0]), ('zeros', 2, [0, 1, 1, 1, 0]),
+                            ('zero-last', 1, [1, 1, 0]), ('inner-over', 2, [2, 3, 2]), ('over-differ', 2, [3, 1, 4]), ('over-less', 2, [2, 1, 3])):
+        poles = round_poles(min(sum(m) - m[-1], 9))
+        for way, count in (('last', sum(m) - m[-1]), ('degree', sum(m) - degree - 1)):
+            l = ring(degree, range(len(m)), m, poles[:max(0, min(9, count))])
+            yield 'closed-ends-%s-%s' % (name, way), sheet(l, A, S=1, ranges=[(0, 1), None])
+        yield 'open-ends-%s' % name, sheet(line(degree, range(len(m)), m, poles[:max(0, min(9, sum(m) - degree - 1))]), A, S=1, ranges=[(0, 1), None])
+    # 10 and 11: a pole more, a pole less, one span, as many poles as the degree, 128 and 129 poles
+    for name, l in (('more', basin(1, 1, 3)), ('fewer', basin(1, 1, 3)), ('one-span', ring(2, [0, 1], [2, 2], round_poles(2))),
+                    ('one-span-25', ring(25, [0, 1], [25, 25], round_poles(25))), ('degree-poles', ring(3, [0, 1, 2], [1, 2, 1], round_poles(3))),
+                    ('width-poles', ring(3, [0, 1, 2], [1, 3, 1], round_poles(4))), ('poles-128', ring(2, range(65), [2] * 65, round_poles(128))),
+                    ('poles-129', ring(2, range(66), [1] + [2] * 64 + [1], round_poles(129))), ('no-poles', ring(1, [0, 1, 2], [1, 1, 1], []))):
+        l.poles = l.poles + [(1, 1, 1)] if name == 'more' else l.poles[1:] if name == 'fewer' else l.poles
+        yield 'closed-poles-%s' % name, sheet(l, segment((9.5, -1, 0), (9.5, 1, 1)), S=0)
+        yield 'closed-poles-%s-second' % name, sheet(segment((9.5, -1, 0), (9.5, 1, 1)), l, S=0)
+
+
+def closed_ranges():
+    """Number 15 of a closed line, at each of its ends."""
+    unit = ring(1, [0.0, 0.25, 0.5, 1.0], [1] * 4, TRIANGLE.poles)
+    half = BINADE(-53)
+    ranges = {'whole': (0.0, 1.0), 'at-first': (0.0, 0.5), 'minus-zero': (-0.0, 1.0), 'below-first': (-TINY, 0.5), 'at-last': (1.0, 1.5), 'at-last-turn': (1.0, 2.0),
+              'below-last': (beside(1.0, -1), 1.5), 'below-last-turn': (beside(1.0, -1), beside(2.0, -1)), 'after-last': (1.25, 1.5),
+              'second-turn': (1.5, 1.75), 'period': (0.25, 1.25), 'over-period': (0.25, beside(1.25, 1)), 'under-period': (0.25, beside(1.25, -1)),
+              'rounded-period': (half, beside(1.0, 1)), 'rounded-longer': (1.5 * half, beside(1.0, 1)), 'rounded-two': (half, beside(1.0, 2)),
+              'rounded-back': (0.5 * half, beside(1.0, 1)), 'empty': (0.5, 0.5), 'falling': (0.75, 0.5), 'falling-over': (0.75, -0.5),
+              'nan': (NAN, 1.0), 'nan-hi': (0.0, NAN), 'inf': (0.5, INF), 'minus-inf': (-INF, 0.5), 'inf-both': (-INF, INF), 'inf-lo': (INF, INF),
+              'max': (0.5, 1.7e308), 'two-turns': (0.0, 2.0)}
+    for name, r in ranges.items():
+        yield 'closed-range-%s' % name, sheet(unit, A, S=0, ranges=[r, None])
+        yield 'closed-range-%s-second' % name, sheet(A, unit, S=0, ranges=[None, r])
+    shifted = ring(1, [-0.7, -0.3, 0.1, 0.3, 0.6], [1] * 5, SQUARE.poles)
+    p = period(shifted)
+    for lo in (-0.7, -0.3, 0.1, 0.5, beside(0.6, -1)):
+        for n in (-1, 0, 1, 2):
+            yield 'closed-range-rounds-%g-%d' % (lo, n), sheet(shifted, A, S=0, ranges=[(lo, beside(lo + p, n)), None])
+    # an open line's bounds are other flat knots
+    yield 'closed-range-inner-bounds', sheet(basin(3, 1, 5), SPOKE, S=0, ranges=[(0.0, 5.0), None])
+    yield 'closed-no15-before-16', sheet(unit, A, S=300, ranges=[(1.0, 1.5), None], gap=-1.0)
+    yield 'closed-no15-second-before-18', sheet(unit, unit, ranges=[(0.5, beside(0.5, 1)), (1.0, 1.5)])
+
+
+FALLING = [[-0.623, beside(-0.623, 1), 1.0, 3.0, 7.42], [-0.036, beside(-0.036, 1), 0.1, 0.5, 0.993]]
+
+
+def closed_breaks():
+    """Number 18: knots that come again at or below a break; and lists that just pass."""
+    onto = ring(1, [0.0, BINADE(-60), 0.5, 1.0], [1] * 4, TRIANGLE.poles)
+    for name, r in (('onto', (0.25, 1.25)), ('onto-short', (0.5, 1.0)), ('onto-past', (0.5, beside(1.0, 2))), ('onto-turn', (0.0, 1.0)),
+                    ('onto-half', (BINADE(-61), 1.0)), ('onto-last', (beside(1.0, -2), 1.5))):
+        yield 'closed-%s' % name, sheet(onto, A, S=0, ranges=[r, None])
+        yield 'closed-%s-second' % name, sheet(A, onto, S=0, ranges=[None, r])
+    near = ring(1, [0.0, BINADE(-52), 0.5, 1.0], [1] * 4, TRIANGLE.poles)
+    wide = ring(1, [0.0, BINADE(-51), 0.5, 1.0], [1] * 4, TRIANGLE.poles)
+    for name, l in (('near', near), ('wide', wide)):
+        for r in ((0.25, 1.25), (0.0, 1.0), (0.5, beside(1.0, 3)), (BINADE(-53), 1.0)):
+            yield 'closed-%s-%g-%g' % (name, r[0], r[1]), sheet(l, A, S=0, ranges=[r, None])
+    # the second knot comes again below the last one
+    for i, knots in enumerate(FALLING):
+        l = basin(1, 1, len(knots) - 1, knots)
+        for r in ((knots[2], knots[2] + period(l)), (knots[-2], beside(knots[-1], 3)), (knots[0], knots[-1])):
+            yield 'closed-falling-%d-%g' % (i, r[0]), sheet(l, SPOKE, S=0, ranges=[r, None])
+    # 126 knots come again at the last one: 255 breaks
+    first = -BINADE(-30)
+    crowded = ring(1, [first + i * BINADE(-80) for i in range(127)] + [first + 2.0], [1] * 128, round_poles(127))
+    yield 'closed-crowded', sheet(crowded, A, ranges=[(first, first + 2.0 + BINADE(-52)), None])
+    yield 'closed-crowded-second', sheet(A, crowded, ranges=[None, (first, first + 2.0 + BINADE(-52))])
+
+
+def closed_memory():
+    """Number 19 and what just passes: pieces of a turn from a knot and from inside a span."""
+    off = segment((0, 500, 0), (9, 500, 0))
+    for degree, spans in ((25, 77), (25, 78), (25, 79), (15, 126), (15, 127), (14, 127), (1, 127)):
+        l = basin(degree, 1, spans)
+        yield 'closed-pieces-%d-%d' % (degree, spans), sheet(l, off, S=1)
+        yield 'closed-pieces-%d-%d-inside' % (degree, spans), sheet(l, off, S=1, ranges=[(3.5, 3.5 + spans), None])
+        yield 'closed-pieces-%d-%d-knot' % (degree, spans), sheet(off, l, S=1, ranges=[None, (3.0, 3.0 + spans)])
+        yield 'closed-pieces-%d-%d-inside-second' % (degree, spans), sheet(off, l, S=1, ranges=[None, (spans - 0.5, 2 * spans - 0.5)])
+    many = basin(1, 1, 127)
+    yield 'closed-pairs', sheet(many, many, S=0, ranges=[(0.5, 127.5), (0.5, 127.5)], gap=100.0)
+    for n in (12, 13):
+        l = ring(1, range(n + 1), [1] * (n + 1), [(i % 2, i, 0) for i in range(n)])
+        yield 'closed-pairs-%d' % n, sheet(l, segment((0.5, -1, 0), (0.5, n, 0)), S=0, ranges=[(0.0, float(n)), None])
+        yield 'closed-pairs-%d-inside' % n, sheet(l, segment((0.5, -1, 0), (0.5, n, 0)), S=0, ranges=[(0.5, n + 0.5), None])
+
+
+def closed_words():
+    """The word that opens a line: kind 8 on one line, on both, and other kinds."""
+    q, end = question(0, [(0, 1), (0, 1)], 0.0), head(7, 0)
+    r, u = TRIANGLE.data(), UNIT.data()
+    for name, a, b in (('first', r, u), ('second', u, r), ('both', r, r), ('neither', u, u)):
+        yield 'closed-%s' % name, a + b + q + end
+        for kind in (0, 1, 7, 8, 9, 15):
+            yield 'closed-%s-kind-%d' % (name, kind), head(kind, 1) + a[4:] + b + q + end
+            yield 'closed-%s-kind-%d-second' % (name, kind), a + head(kind, 1) + b[4:] + q + end
+    for at in (0, 4, 8, 40, len(r), len(r) + 4):
+        yield 'closed-cut-%d' % at, (r + r + q + end)[:at]
+    for degree in (0, 26, 0x0FFFFFFF):
+        yield 'closed-degree-%d' % degree, head(8, degree) + r[4:] + u + q + end
+    yield 'closed-twice', head(8, 1) + r + u + q + end
+    yield 'closed-after-open', head(1, 1) + r + u + q + end
+    yield 'closed-weights-0', r + head(5, 0) + u + q + end
+    yield 'closed-as-end', u + u + q + head(8, 0)
+
+
+def closed_drawn():
+    """All drawn sheets with closed lines: (name, bytes)."""
+    for part in (turns, seams, rounded_periods, lost_spans, closed_faults, closed_ranges, closed_breaks, closed_memory, closed_words):
+        yield from part()
+
+
 # ---- random sheets --------------------------------------------------------------
 
 
@@ -1067,19 +1335,182 @@ KINDS = [(kind_lines, 30), (kind_segments, 12), (kind_small_pieces, 18), (kind_c
          (kind_spoilt, 10), (kind_damaged, 10), (kind_wild, 5), (kind_bytes, 2)]
 
 
-def random_sheet(rng):
+def ring_knots(rng, n):
+    """n rising knots; often with spans of a few doubles, or with a period that rounds."""
+    way = rng.below(4)
+    if way == 0:
+        return random_knots(rng, n)
+    if way == 1:
+        out = sorted({rng.between(-1.0, 1.0) for _ in range(n)})
+        return out if len(out) == n else [float(i) for i in range(n)]
+    at = rng.pick([-1000.0, -1.0, -0.7, -0.1, 0.0, 0.3, 1.0, 700.0, -BINADE(20), rng.between(-2.0, 2.0)])
+    out = [at]
+    for _ in range(n - 1):
+        step = rng.below(5)
+        if step == 0:
+            at = beside(at, 1 + rng.below(4))
+        elif step == 1:
+            at = max(beside(at, 1), 0.0) if at < 0 else at + BINADE(-rng.below(60))
+        else:
+            at = at + rng.pick([0.1, 0.5, 1.0, 3.0, rng.unit(), 500.0])
+        at = beside(out[-1], 1) if not out[-1] < at <= BINADE(20) else at
+        out.append(at)
+    return out
+
+
+def random_ring(rng, style, spans=None, degree=None):
+    """An admitted closed line."""
+    while True:
+        p = random_degree(rng) if degree is None else degree
+        n = (2 + rng.pick([0, 1, 1, 2, 3, rng.below(12)])) if spans is None else spans
+        seam = rng.pick([1, 1, p, 1 + rng.below(p)])
+        mults = [seam] + [rng.pick([1, 1, 1, p, 1 + rng.below(p)]) for _ in range(n - 1)] + [seam]
+        poles = sum(mults) - seam
+        if p + 1 <= poles <= 128:
+            weights = random_weights(rng, poles) if rng.chance(0.25) else None
+            return ring(p, ring_knots(rng, n + 1), mults, in_limits(random_poles(rng, poles, style)), weights)
+
+
+def ring_range(rng, l):
+    """A range that is nearly always admitted: from a knot, beside one, or from inside; a turn, a part or a few doubles."""
+    first, last = l.bounds()
+    if not l.closed or not first < last:
+        return random_range(rng, l)
+    k = l.knots[rng.below(len(l.knots) - 1)]
+    lo = rng.pick([first, first, k, beside(k, 1 + rng.below(3)), beside(k, -1 - rng.below(3)), beside(last, -1 - rng.below(4)),
+                   rng.between(first, last), rng.between(first, last)])
+    lo = lo if first <= lo < last else first
+    way = rng.below(8)
+    if way < 3:
+        return (lo, lo + (last - first))
+    if way == 3:
+        return (lo, beside(lo + (last - first), rng.below(5) - 2))
+    if way == 4:
+        return (lo, lo + (last - first) * rng.unit())
+    if way == 5:
+        return (lo, rng.pick([last, beside(last, 1 + rng.below(6)), k + (last - first)]))
+    if way == 6:
+        return (lo, beside(lo, 1 + rng.below(40)))
+    return (lo, max(l.knots[rng.below(len(l.knots))], beside(lo, 8)))
+
+
+def kind_rings(rng):
+    """A ring and an open line, or two rings."""
+    style = rng.pick(STYLES)
+    a = random_ring(rng, style, 2 + rng.below(5))
+    b = random_ring(rng, style, 2 + rng.below(3)) if rng.chance(0.3) else random_line(rng, style, 1 + rng.below(2))
+    if rng.chance(0.1):
+        b = turned_over(rng, a)
+    if rng.chance(0.1):
+        a, b = with_zeros(rng, a), with_zeros(rng, b)
+    if rng.chance(0.4):
+        a, b = b, a
+    return sheet(a, b, rng.pick([0, 0, 1, 2, 5, 20, 60]), [ring_range(rng, a), ring_range(rng, b)], random_gap(rng, style))
+
+
+def kind_ring_doubles(rng):
+    """Rings with spans of a few doubles: in_period and the list may disagree."""
+    a = random_ring(rng, 'grid', 3 + rng.below(3), rng.pick([1, 1, 1, 2, 3, 4]))
+    at = rng.pick([-1000.0, -500.0, -1.0, -0.7, 0.3, 1.0, rng.between(-2.0, 2.0)])
+    n = len(a.knots) - 1
+    steps = [rng.pick([0.5, 1.0, 500.0, rng.unit()]) for _ in range(n)]
+    tight = rng.pick([0, 0, n - 1, n - 1, rng.below(n)])
+    a.knots = [at]
+    for i in range(n):
+        top = a.knots[-1]
+        a.knots.append(beside(top, 1 + rng.below(3)) if i == tight else top + steps[i])
+    if rng.chance(0.4):  # the last span near 0, or the last but one knot 0
+        e = BINADE(-rng.pick([40, 52, 53, 60, 300]))
+        a.knots = [k - a.knots[-1] - 1.0 for k in a.knots[:-1]] + [rng.pick([e, 1.0 + E43])]
+        a.knots[-2] = rng.pick([0.0, a.knots[-2]])
+    if sorted(set(a.knots)) != a.knots:
+        a.knots = [float(i) for i in range(n + 1)]
+    point = lambda: tuple(rng.pick([-1.0, 0.0, 0.5, 1.0, 2.0, rng.between(-2.0, 2.0)]) for _ in range(3))
+    b = segment(point(), point())
+    first, last = a.bounds()
+    lo = rng.pick([first, a.knots[1], 0.5 * (a.knots[n - 2] + a.knots[n - 1]), a.knots[n - 1], rng.between(first, last)])
+    lo = lo if first <= lo < last else first
+    hi = rng.pick([lo + (last - first), last, lo + (last - first), max(last, lo + (last - first) * rng.unit())])
+    pair = [(a, (lo, hi)), (b, None)]
+    (a, ra), (b, rb) = pair if rng.chance(0.5) else pair[::-1]
+    return sheet(a, b, rng.pick([0, 0, 1, 10]), [ra, rb], rng.pick([0.0, 0.0, 0.25]))
+
+
+def kind_ring_spoilt(rng):
+    """One or more faults, 22 among them."""
+    number = rng.pick([22, 22, 22] + list(range(4, 19)))
+    a, b = random_ring(rng, 'grid', 2 + rng.below(3)), random_line(rng, 'grid', 1)
+    ranges, gap, s = [None, None], rng.pick([0.0, 1.0]), rng.below(20)
+    if number == 22:
+        a.mults[rng.pick([0, -1])] = rng.pick([0, 1, a.degree, a.degree + 1, 99, 0xFFFFFFFF, 1 + rng.below(a.degree + 1)])
+    elif number <= 14:
+        spoil_into(a, number, rng)
+    while rng.chance(0.3):
+        spoil_into(a, 4 + rng.below(11), rng)
+    if number == 15 or rng.chance(0.1):
+        first, last = a.bounds()
+        ranges[0] = rng.pick([(last, last + 1.0), (beside(last, -1), INF), (NAN, last), (beside(first, -1), last), (first, beside(last, 1)), (first, first)])
+    if number == 16:
+        gap = rng.pick(BAD_FLOATS + [-1.0, 2e7])
+    if number == 17:
+        s = 257 + rng.below(5000)
+    if number == 18:
+        first = a.bounds()[0]
+        ranges[0] = (first, beside(first, 1))
+    if rng.chance(0.2):
+        b = random_ring(rng, 'grid', 2)
+        spoil_into(b, 4 + rng.below(11), rng)
+    if rng.chance(0.4):
+        a, b, ranges = b, a, ranges[::-1]
+    return sheet(a, b, s, ranges, gap)
+
+
+def kind_ring_damaged(rng):
+    """A sheet with a closed line, with words or bits changed, or a line's kind turned."""
+    data = bytearray(rng.pick([kind_rings, kind_ring_doubles])(rng)[:16384])
+    way = rng.below(4)
+    if way == 0:
+        return bytes(data[:4 * rng.below(len(data) // 4 + 1)])
+    if way == 1:
+        data[rng.below(len(data))] ^= 1 << rng.below(8)
+        return bytes(data)
+    if way == 2:
+        data[0:4] = head(rng.pick([1, 8, 9, rng.below(16)]), data[0])
+        return bytes(data)
+    at = 4 * rng.below(len(data) // 4)
+    data[at:at + 4] = head(rng.below(16), rng.below(6))
+    return bytes(data)
+
+
+def kind_ring_pieces(rng):
+    """Many pieces, few pairs."""
+    degree = rng.pick([1, 2, 3, 8, 15, 25])
+    spans = max(degree + 1, rng.pick([20, 60, 77, 78, 79, 100, 126, 127]))
+    a = ring(degree, ring_knots(rng, spans + 1) if rng.chance(0.3) else range(spans + 1), [1] * (spans + 1), round_poles(spans, 50.0))
+    b = segment((rng.between(-60.0, 60.0), rng.between(-60.0, 60.0), 0.0), (rng.between(30.0, 60.0), rng.unit(), 1.0))
+    ranges = [ring_range(rng, a), None]
+    pair = (a, b) if rng.chance(0.5) else (b, a)
+    return sheet(pair[0], pair[1], rng.below(10), ranges if pair[0] is a else ranges[::-1], rng.pick([0.0, 0.1]))
+
+
+CLOSED_KINDS = [(kind_rings, 40), (kind_ring_doubles, 30), (kind_ring_spoilt, 12), (kind_ring_damaged, 8), (kind_ring_pieces, 10)]
+
+
+def random_sheet(rng, kinds):
     """(kind, bytes) of one random sheet."""
-    at = rng.below(sum(n for _, n in KINDS))
-    for make, n in KINDS:
+    at = rng.below(sum(n for _, n in kinds))
+    for make, n in kinds:
         if at < n:
             return make.__name__[5:], make(rng)
         at -= n
 
 
-def random_sheets(seed, count):
-    """`count` random sheets; sheet i depends on the seed and i alone."""
+def random_sheets(seed, count, closed=False):
+    """`count` random sheets; sheet i depends on the seed and i alone. With closed
+    lines if asked for: those at 0, 3, 6, ..; the others stay."""
     for i in range(count):
-        yield random_sheet(Rng(seed * 1000003 + i))
+        kinds = CLOSED_KINDS if closed and i % 3 == 0 else KINDS
+        yield random_sheet(Rng(seed * 1000003 + i), kinds)
 
 
 # ---- files ------------------------------------------------------------------------
@@ -1124,6 +1555,29 @@ REPLAY_ALSO = {
     'twice-round', 'equal-starts', 'zeros-0-1', 'minus-zero-poles', 'f0-is-1', 'tiny-0', 'mixed-2^-1072'}
 
 
+CLOSED_SEED, CLOSED_TRIED, CLOSED_BYTES, CLOSED_TEXT = 100, 3000, 1200, 800
+CLOSED_GROUPS = [(turns, 3), (seams, 1), (rounded_periods, 1), (lost_spans, 1), (closed_faults, 1), (closed_ranges, 1),
+                 (closed_breaks, 1), (closed_memory, 1), (closed_words, 1)]
+
+
+def closed_replay_sheets(program):
+    """(bytes, answer) of the replay list with closed lines: drawn sheets, thinned
+    by group, then random ones, a few of each bucket."""
+    for group, every in CLOSED_GROUPS:
+        for i, (_, data) in enumerate(group()):
+            if i % every == 0:
+                yield data, answer_of(program, data)
+    taken = {}
+    for i, (kind, data) in enumerate(random_sheets(CLOSED_SEED, CLOSED_TRIED, closed=True)):
+        if i % 3 != 0 or len(data) > CLOSED_BYTES:
+            continue
+        answer = answer_of(program, data)
+        at, most = bucket(kind, answer)
+        if taken.get(at, 0) < most and len(answer) <= CLOSED_TEXT:
+            taken[at] = taken.get(at, 0) + 1
+            yield data, answer
+
+
 def replay_sheets(program):
     """(bytes, answer) of the replay list: drawn sheets, thinned by group, random
     ones, a few of each bucket, and the last groups whole."""
@@ -1148,12 +1602,12 @@ def replay_sheets(program):
             yield data, answer_of(program, data)
 
 
-def write_replay(folder, program):
+def write_replay(folder, listed):
     os.makedirs(folder, exist_ok=True)
     count = 0
     with open(os.path.join(folder, 'sheets.bin'), 'wb') as f, \
             open(os.path.join(folder, 'answers.txt'), 'w', newline='\n') as g:
-        for data, answer in replay_sheets(program):
+        for data, answer in listed:
             f.write(packed(data))
             g.write(answer + '---\n')
             count += 1
@@ -1161,16 +1615,18 @@ def write_replay(folder, program):
 
 
 def main(args):
-    if args[:1] == ['--examples'] and len(args) == 2:
+    closed = args[:1] == ['--closed']
+    args = args[1:] if closed else args
+    if args[:1] == ['--examples'] and len(args) == 2 and not closed:
         write_examples(args[1])
     elif args == ['--list']:
-        for name, data in drawn():
+        for name, data in closed_drawn() if closed else drawn():
             print(len(data), name)
     elif args[:1] == ['--many'] and len(args) == 3:
-        for _, data in random_sheets(int(args[1]), int(args[2])):
+        for _, data in random_sheets(int(args[1]), int(args[2]), closed):
             sys.stdout.buffer.write(packed(data))
     elif args[:1] == ['--replay'] and len(args) == 3:
-        write_replay(args[1], args[2])
+        write_replay(args[1], closed_replay_sheets(args[2]) if closed else replay_sheets(args[2]))
     else:
         sys.exit(__doc__)
 
