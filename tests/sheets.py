@@ -729,6 +729,19 @@ def turns():
         yield 'ring-%d-%d-over' % (degree, seam), sheet(SPOKE, l, S=0, ranges=[None, (spans - 0.5, spans + 0.75)])
 
 
+def seam_spans():
+    """The spans at the seam one by one, with uneven knots and poles; the gap lists each, with the box of its net."""
+    for degree in (1, 2, 3, 4, 5):
+        for seam in range(1, degree + 1):
+            n = degree + 2
+            l = basin(degree, seam, n, [i + 0.1 * (i % 3) for i in range(n + 1)])
+            l.poles = [(x * (1 + i % 2), y, z + i) for i, (x, y, z) in enumerate(l.poles)]
+            for way, weights in (('plain', None), ('weights', [1.0 + i % 3 * 0.5 for i in range(len(l.poles))])):
+                l.weights = weights
+                for at, r in (('first', (l.knots[0], l.knots[1])), ('last', (l.knots[n - 1], l.knots[n])), ('again', from_to(l, l.knots[n - 1] + 0.5, 0.875))):
+                    yield 'seam-%d-%d-%s-%s' % (degree, seam, way, at), sheet(l, UNIT, S=0, ranges=[r, None], gap=60.0)
+
+
 def seams():
     """Rings against each other, with weights, inner multiplicities, far knots."""
     for i, (a, b) in enumerate([(TRIANGLE, SQUARE), (SQUARE, TRIANGLE), (TRIANGLE, TRIANGLE), (SQUARE, A), (A, SQUARE)]):
@@ -790,6 +803,12 @@ def lost_spans():
         yield 'lost-last-second-S%d' % s, sheet(last, LAST_SIDE, S=s, ranges=[None, (-1000.0, BINADE(-60))], gap=1.0)
         yield 'lost-first-S%d' % s, sheet(FIRST_SIDE, first, S=s, ranges=[(-400.0, 600.0), None])
         yield 'lost-first-second-S%d' % s, sheet(first, FIRST_SIDE, S=s, ranges=[None, (-400.0, 600.0)])
+    # the last doubles of a turn, whose quotient rounds to 1; the gap lists them
+    for i, (degree, knots, seam) in enumerate([(4, [-0.7, 0.6, 0.7, 0.8], 1), (4, [-3.3, -2.0, -1.374, -1.274, 0.026, 0.326], 2),
+                                               (5, [-3.3, -2.0, -1.3, -1.0, -0.663, -0.585], 4), (3, [-1.0, 0.0, 1.0, 2.0], 2)]):
+        l = basin(degree, seam, len(knots) - 1, knots, inner=degree - 1)
+        for name, r in (('to', (beside(knots[-1], -2), knots[-1])), ('over', (beside(knots[-1], -2), knots[-1] + 0.05))):
+            yield 'last-doubles-%d-%s' % (i, name), sheet(l, UNIT, S=0, ranges=[r, None], gap=20.0)
 
 
 def closed_faults():
@@ -893,7 +912,7 @@ def closed_breaks():
 def closed_memory():
     """Number 19 and what just passes: pieces of a turn from a knot and from inside a span."""
     off = segment((0, 500, 0), (9, 500, 0))
-    for degree, spans in ((25, 77), (25, 78), (25, 79), (15, 126), (15, 127), (14, 127), (1, 127)):
+    for degree, spans in ((25, 77), (25, 78), (25, 79), (15, 126), (15, 127), (1, 127)):
         l = basin(degree, 1, spans)
         yield 'closed-pieces-%d-%d' % (degree, spans), sheet(l, off, S=1)
         yield 'closed-pieces-%d-%d-inside' % (degree, spans), sheet(l, off, S=1, ranges=[(3.5, 3.5 + spans), None])
@@ -928,7 +947,7 @@ def closed_words():
 
 def closed_drawn():
     """All drawn sheets with closed lines: (name, bytes)."""
-    for part in (turns, seams, rounded_periods, lost_spans, closed_faults, closed_ranges, closed_breaks, closed_memory, closed_words):
+    for part in (turns, seam_spans, seams, rounded_periods, lost_spans, closed_faults, closed_ranges, closed_breaks, closed_memory, closed_words):
         yield from part()
 
 
@@ -1556,7 +1575,7 @@ REPLAY_ALSO = {
 
 
 CLOSED_SEED, CLOSED_TRIED, CLOSED_BYTES, CLOSED_TEXT = 100, 3000, 1200, 800
-CLOSED_GROUPS = [(turns, 3), (seams, 1), (rounded_periods, 1), (lost_spans, 1), (closed_faults, 1), (closed_ranges, 1),
+CLOSED_GROUPS = [(turns, 4), (seam_spans, 1), (seams, 1), (rounded_periods, 2), (lost_spans, 1), (closed_faults, 1), (closed_ranges, 1),
                  (closed_breaks, 1), (closed_memory, 1), (closed_words, 1)]
 
 

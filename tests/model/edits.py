@@ -1,12 +1,15 @@
 #!/usr/bin/env python3
 """How sharp a list of sheets is: edits of the model that must be seen.
 
-  edits.py DIR [SEED N]
+  edits.py [--where] DIR ...
+  edits.py --random SEED N
 
 Each edit below makes one mistake in clearance.c. The edited program is built
-and run on the sheets of DIR/sheets.bin (or, with SEED and N, on the drawn sheets
-and N random ones); an edit is seen if an answer differs from the unedited
-program's. Exit 1 if an edit is not seen.
+and run on the sheets of each DIR/sheets.bin (or, with --random, on the drawn
+sheets and N random ones of the seed, closed lines among them); an edit is seen
+if an answer differs from the unedited program's. Exit 1 if an edit is not seen,
+or if one of those that no sheet can show is. --where prints the first sheet
+that shows each edit.
 """
 import os
 import subprocess
@@ -86,10 +89,10 @@ EDITS = [
     ('18 on all knots', 'int n = fill_breaks(l, sheet->range[k], s->breaks[k]);',
      'int n = fill_breaks(l, sheet->range[k], s->breaks[k]);\n        if (!breaks_have_middles(l->knots, (int)l->knot_count)) return refusal(18, k + 1);'),
     # pieces
-    ('breaks at lo', 'if (range[0] < l->knots[i] &&', 'if (range[0] <= l->knots[i] &&'),
+    ('breaks at lo', 'if (range[0] < l->list[i] &&', 'if (range[0] <= l->list[i] &&'),
     ('span from the right', 'l->flat[s + 1] <= u) s++', 'l->flat[s + 1] < u - 1e-3) s++'),
-    ('knots not relative', 'around[p - j] = -(u - l->flat[s + 1 - j]);\n        around[p - 1 + j] = l->flat[s + j] - u;',
-     'around[p - j] = l->flat[s + 1 - j];\n        around[p - 1 + j] = l->flat[s + j];'),
+    ('knots not relative', 'around[p - j] = -(u - flat_knot(l, s + 1 - j));\n        around[p - 1 + j] = flat_knot(l, s + j) - u;',
+     'around[p - j] = flat_knot(l, s + 1 - j);\n        around[p - 1 + j] = flat_knot(l, s + j);'),
     ('quotient for reciprocal', 'double alpha = (x - low) * inverse;',
      'double alpha = (x - low) / (around[p + j - r] - low); (void)inverse;'),
     ('other blend', 'd[j][i] = (1.0 - alpha) * d[j - 1][i] + alpha * d[j][i];', 'd[j][i] = d[j - 1][i] + alpha * (d[j][i] - d[j - 1][i]);'),
@@ -178,9 +181,75 @@ EDITS = [
     ('left before given', 'n = merge(s->raw, n, s->report);', '{ Region t[LENT_REGIONS / 10]; uint64_t w = s->waiting; memcpy(t, s->raw + s->given, w * sizeof *t); memcpy(t + w, s->raw, s->given * sizeof *t); n = merge(t, n, s->report); }'),
     ('corners of the first', 'r.f[4 + c] = least(hull[0].box[c], hull[1].box[c]);', 'r.f[4 + c] = hull[0].box[c];'),
     ('corners not united', 'for (int i = 0; i < 10; i++)\n        r.f[i] = high', 'r = *a;\n    for (int i = 0; i < 4; i++)\n        r.f[i] = high'),
+    # closed lines
+    ('kind 8 read as kind 1', "    l->closed = w->at < w->count && w->words[w->at] >> 28 == KIND_CLOSED;\n    return take_head(w, l->closed ? KIND_CLOSED : KIND_LINE, &l->degree);",
+     "    int eight = w->at < w->count && w->words[w->at] >> 28 == KIND_CLOSED;\n    return take_head(w, eight ? KIND_CLOSED : KIND_LINE, &l->degree);"),
+    ('kind 1 read as kind 8', 'l->closed = w->at < w->count && w->words[w->at] >> 28 == KIND_CLOSED;', 'l->closed = 1;'),
+    ('kind 9 for kind 8', 'KIND_QUESTION, KIND_END, KIND_CLOSED };', 'KIND_QUESTION, KIND_END, KIND_CLOSED = 9 };'),
+    ('any kind for a line', '    return take_head(w, l->closed ? KIND_CLOSED : KIND_LINE, &l->degree);', '    return take_head(w, w->at < w->count ? w->words[w->at] >> 28 : KIND_LINE, &l->degree);'),
+    ('closed on the first line only', 'if (!no) no = take_line(&w, &s->line[1]);', 'if (!no) no = take_line(&w, &s->line[1]), s->line[1].closed = 0;'),
+    ('22 before 7', '    if (!knots_rise(l)) return 7;\n    if (l->closed && !ends_alike(l)) return 22;\n', '    if (l->closed && !ends_alike(l)) return 22;\n    if (!knots_rise(l)) return 7;\n'),
+    ('22 after 8', '    if (l->closed && !ends_alike(l)) return 22;\n    if (!mults_in_limits(l)) return 8;\n', '    if (!mults_in_limits(l)) return 8;\n    if (l->closed && !ends_alike(l)) return 22;\n'),
+    ('22 after 9', '    if (l->closed && !ends_alike(l)) return 22;\n    if (!mults_in_limits(l)) return 8;\n    if (!mults_above_zero(l)) return 9;\n',
+     '    if (!mults_in_limits(l)) return 8;\n    if (!mults_above_zero(l)) return 9;\n    if (l->closed && !ends_alike(l)) return 22;\n'),
+    ('22 after 10', '    if (l->closed && !ends_alike(l)) return 22;\n    if (!mults_in_limits(l)) return 8;\n    if (!mults_above_zero(l)) return 9;\n    if (!pole_count_fits(l)) return 10;\n',
+     '    if (!mults_in_limits(l)) return 8;\n    if (!mults_above_zero(l)) return 9;\n    if (!pole_count_fits(l)) return 10;\n    if (l->closed && !ends_alike(l)) return 22;\n'),
+    ('no 22', '    if (l->closed && !ends_alike(l)) return 22;\n', ''),
+    ('22 on open lines', 'if (l->closed && !ends_alike(l)) return 22;', 'if (!ends_alike(l)) return 22;'),
+    ('22 as 8', 'return 22;', 'return 8;'),
+    ('22 printed with 0', 'if (no) return refusal(no, k + 1);', 'if (no) return refusal(no, no == 22 ? 0 : k + 1);'),
+    ('ends at degree + 1', 'int end = !l->closed && (i == 0', 'int end = (i == 0'),
+    ('sum - degree - 1 kept', 'if (l->closed)\n        return (int64_t)l->pole_count == sum - l->mults[l->mult_count - 1];\n', ''),
+    ('sum - first - last', 'sum - l->mults[l->mult_count - 1];', 'sum - 2 * (int64_t)l->mults[l->mult_count - 1];'),
+    ('as many poles as the degree', 'if (l->pole_count < l->degree + 1 ||', 'if (l->pole_count < l->degree + !l->closed ||'),
+    ('no poles beyond degree + 1 asked of a closed line', 'if (l->pole_count < l->degree + 1 ||', 'if ((!l->closed && l->pole_count < l->degree + 1) ||'),
+    ('lo = last', 'lo < last_knot(l) && hi', 'lo <= last_knot(l) && hi'),
+    ('lo below first', 'return first_knot(l) <= lo && lo', 'return lo'),
+    ('lo = first refused', 'return first_knot(l) <= lo && lo', 'return first_knot(l) < lo && lo'),
+    ('hi <= lo + period', 'hi - lo <= period(l);', 'hi <= lo + period(l);'),
+    ('shorter than the period', 'hi - lo <= period(l);', 'hi - lo < period(l);'),
+    ('hi <= last', 'hi - lo <= period(l);', 'hi <= last_knot(l);'),
+    ('no length', ' && hi - lo <= period(l);', ';'),
+    ('exact length', 'hi - lo <= period(l);', '(long double)hi - lo <= (long double)last_knot(l) - first_knot(l);'),
+    ('bounds of an open line', '    if (l->closed)\n        return first_knot', '    if (l->closed && (lo < l->flat[l->degree] || hi > l->flat[l->pole_count] + period(l))) return 0;\n    if (l->closed)\n        return first_knot'),
+    ('one turn listed', '    if (l->closed)\n        for (uint32_t i = 1; i < l->knot_count; i++)\n            l->list[n++] = l->knots[i] + period(l);\n', ''),
+    ('the first knot comes again', '        for (uint32_t i = 1; i < l->knot_count; i++)\n            l->list[n++] = l->knots[i] + period(l);\n', '        for (uint32_t i = 0; i < l->knot_count && n < MAX_LIST; i++)\n            l->list[n++] = l->knots[i] + period(l);\n'),
+    ('first + period for the last knot', '    l->list_count = n;', '    if (l->closed) l->list[l->knot_count - 1] = first_knot(l) + period(l);\n    l->list_count = n;'),
+    ('copies by the distance from the first', 'l->list[n++] = l->knots[i] + period(l);', 'l->list[n++] = last_knot(l) + (l->knots[i] - first_knot(l));'),
+    ('equal breaks once', 'if (range[0] < l->list[i] && l->list[i] < range[1])', 'if (range[0] < l->list[i] && l->list[i] < range[1] && l->list[i] != breaks[n - 1])'),
+    ('rising breaks only', 'if (range[0] < l->list[i] && l->list[i] < range[1])', 'if (range[0] < l->list[i] && l->list[i] < range[1] && l->list[i] >= breaks[n - 1])'),
+    ('quotient rounded', 'floor((u - first_knot(l)) / period(l))', 'rint((u - first_knot(l)) / period(l))'),
+    ('one turn at most taken off', 'double turns = floor((u - first_knot(l)) / period(l));', 'double turns = u < last_knot(l) ? 0.0 : 1.0;'),
+    ('from the first knot', 'u - period(l) * turns);', 'first_knot(l) + fmod(u - first_knot(l), period(l)));'),
+    ('the net in the unrolled place', '    if (!l->closed) return t;\n', '    return t;\n'),
+    ("the span's start left out", 'return start_unless(l->knots[i], l->knots[i + 1], in_period(l, t));', 'return in_period(l, t);'),
+    ("the span's start always", 'return start_unless(l->knots[i], l->knots[i + 1], in_period(l, t));', 'return l->knots[i];'),
+    ('the cut by in_period', 'uint32_t i = list_span(l, t);\n    double a', 'uint32_t i = list_span(l, l->closed ? in_period(l, t) : t);\n    double a'),
+    ('the cut of the first turn', 'double a = l->list[i], b = l->list[i + 1];', 'double a = l->list[l->closed ? i % (l->knot_count - 1) : i], b = l->list[(l->closed ? i % (l->knot_count - 1) : i) + 1];'),
+    ('first + period at the seam', 'if (l->closed && i >= n + (int)l->mults[0]) return', 'if (l->closed && i >= n) return'),
+    ('last - period at the seam', 'if (l->closed && i < 0) return l->flat[i + n] - period(l);', 'if (l->closed && i < (int)l->mults[0]) return l->flat[i + n] - period(l);'),
+    ('no period before the turn', 'return l->flat[i + n] - period(l);', 'return l->flat[i + n];'),
+    ('no period after the turn', 'return l->flat[i - n] + period(l);', 'return l->flat[i - n];'),
+    ('turn of all flat knots', 'return l->flat[i - n] + period(l);', 'return l->flat[i - n - (int)l->mults[0]] + period(l);'),
+    ('span from the degree', 'uint32_t s = l->closed ? l->mults[0] - 1 : l->degree;', 'uint32_t s = l->degree;'),
+    ('poles not rotated', 'l->closed ? s + 1 - (int)l->mults[0] : s - p', 'l->closed ? s : s - p'),
+    ('poles rotated by m', 'l->closed ? s + 1 - (int)l->mults[0] : s - p', 'l->closed ? s + (int)l->pole_count - (int)l->mults[0] : s - p'),
+    ('poles rotated by the degree', 'l->closed ? s + 1 - (int)l->mults[0] : s - p', 's - p + (l->closed ? (int)l->pole_count : 0)'),
+    ('no wrap', '    i %= l->pole_count;\n', ''),
+    ('the last pole stays', '    i %= l->pole_count;\n', '    i = i < l->pole_count ? i : l->pole_count - 1;\n'),
+    ('weights not wrapped', '    i %= l->pole_count;\n    double w = l->rational ? l->weights[i] : 1.0;', '    double w = l->rational ? l->weights[i] : 1.0;\n    i %= l->pole_count;'),
+    ('127 pieces', 'int n = fill_breaks(l, sheet->range[k], s->breaks[k]);', 'int n = fill_breaks(l, sheet->range[k], s->breaks[k]);\n        if (n > MAX_KNOTS) return refusal(19, 0);'),
     # printing
     ('-0 printed', '    if (x == 0.0) bits = 0;\n', ''),
     ('unseparated before budget', 'if (s->waiting > 0)\n        word = "budget";\n    else if (s->given > 0)\n        word = "unseparated";', 'if (s->given > 0)\n        word = "unseparated";\n    else if (s->waiting > 0)\n        word = "budget";'),
+]
+
+# Mistakes that no sheet can show, each with the reason.
+ALIKE = [
+    # a middle lies above lo, which is not below the first knot
+    ('floor of a negative cut to 0', 'double turns = floor((u - first_knot(l)) / period(l));', 'double turns = trunc((u - first_knot(l)) / period(l));'),
+    # place takes the span's start for any value outside the span, so for any outside the turn
+    ('in_period without "first where"', 'return start_unless(first_knot(l), last_knot(l), u - period(l) * turns);', 'return u - period(l) * turns;'),
 ]
 
 
@@ -200,28 +269,54 @@ def answers(program, data):
     return done.stdout
 
 
+def shown(program, data, right):
+    """The number of the first sheet that the program answers otherwise, or None."""
+    got = answers(program, data)
+    if got == right:
+        return None
+    pairs = zip((got or b'').split(b'---\n'), right.split(b'---\n'))
+    return next((i for i, (a, b) in enumerate(pairs) if a != b), -1)
+
+
+def stored(folders):
+    out = []
+    for folder in folders:
+        with open(os.path.join(folder, 'sheets.bin'), 'rb') as f:
+            out.append(f.read())
+    return b''.join(out)
+
+
+def generated(seed, count):
+    listed = [d for _, d in sheets.drawn()] + [d for _, d in sheets.closed_drawn()]
+    listed += [d for _, d in sheets.random_sheets(seed, count, closed=True)]
+    return b''.join(sheets.packed(d) for d in listed)
+
+
 def main(args):
-    if len(args) == 3:
-        picked = [d for _, d in sheets.drawn()] + [d for _, d in sheets.random_sheets(int(args[1]), int(args[2]))]
-        data = b''.join(sheets.packed(d) for d in picked)
-    elif len(args) == 1:
-        with open(os.path.join(args[0], 'sheets.bin'), 'rb') as f:
-            data = f.read()
+    where = args[:1] == ['--where']
+    args = args[1:] if where else args
+    if args[:1] == ['--random'] and len(args) == 3:
+        data = generated(int(args[1]), int(args[2]))
+    elif args and args[0] != '--random':
+        data = stored(args)
     else:
         sys.exit(__doc__)
     with open(os.path.join(HERE, 'clearance.c')) as f:
         text = f.read()
-    unseen = 0
+    bad = 0
     with tempfile.TemporaryDirectory() as folder:
         right = answers(build(text, folder, 'right'), data)
-        for i, (name, old, new) in enumerate(EDITS):
+        for i, (name, old, new) in enumerate(EDITS + ALIKE):
             if text.count(old) != 1:
                 sys.exit('%s: the text is there %d times' % (name, text.count(old)))
-            if answers(build(text.replace(old, new), folder, 'e%d' % i), data) == right:
-                print('not seen: ' + name)
-                unseen += 1
-    print('%d edits, %d not seen' % (len(EDITS), unseen))
-    return 1 if unseen else 0
+            at = shown(build(text.replace(old, new), folder, 'e%d' % i), data, right)
+            if (at is None) == (i < len(EDITS)):
+                print(('not seen: ' if at is None else 'seen, by sheet %d: ' % at) + name)
+                bad += 1
+            elif where:
+                print('%s: %s' % (name, 'no sheet' if at is None else 'sheet %d' % at))
+    print('%d edits, and %d that no sheet can show: %d not so' % (len(EDITS), len(ALIKE), bad))
+    return 1 if bad else 0
 
 
 if __name__ == '__main__':
