@@ -692,8 +692,8 @@ def period(l):
 
 def round_poles(n, radius=10.0):
     """n poles round the z axis."""
-    return [(round(radius * math.cos(2 * math.pi * i / n), 3), round(radius * math.sin(2 * math.pi * i / n), 3), i % 3 * 0.5)
-            for i in range(n)]
+    angles = [2 * math.pi * i / n for i in range(n)]
+    return [(round(radius * math.cos(t), 3), round(radius * math.sin(t), 3), i % 3 * 0.5) for i, t in enumerate(angles)]
 
 
 def basin(degree, seam, spans, knots=None, inner=1, weights=None):
@@ -703,9 +703,9 @@ def basin(degree, seam, spans, knots=None, inner=1, weights=None):
     return ring(degree, knots, mults, round_poles(sum(mults) - seam), weights)
 
 
-def from_to(l, lo, length):
-    """The range from lo of a length, its end rounded."""
-    return (lo, lo + length)
+def turn_from(l, lo):
+    """A whole turn from lo, its end rounded."""
+    return (lo, lo + period(l))
 
 
 TRIANGLE = ring(1, [0, 1, 2, 3], [1, 1, 1, 1], [(0, 0, 0), (4, 0, 0), (0, 3, 0)])
@@ -719,10 +719,12 @@ def turns():
     for degree in (1, 2, 3, 4, 5):
         for seam in range(1, degree + 1):
             l = basin(degree, seam, degree + 2)
-            for name, lo in (('first', 0.0), ('knot', 2.0), ('inside', 1.375), ('after', beside(2.0, 1)), ('below', beside(2.0, -1)),
-                             ('last-span', degree + 1.25), ('below-last', beside(degree + 2.0, -2))):
+            starts = {'first': 0.0, 'knot': 2.0, 'inside': 1.375, 'after': beside(2.0, 1), 'below': beside(2.0, -1),
+                      'last-span': degree + 1.25, 'below-last': beside(degree + 2.0, -2)}
+            for start, lo in starts.items():
                 for part, length in (('turn', period(l)), ('half', 0.5 * period(l)), ('span', 1.0)):
-                    yield 'ring-%d-%d-%s-%s' % (degree, seam, name, part), sheet(l, SPOKE, S=3, ranges=[from_to(l, lo, length), None])
+                    name = 'ring-%d-%d-%s-%s' % (degree, seam, start, part)
+                    yield name, sheet(l, SPOKE, S=3, ranges=[(lo, lo + length), None])
     for degree, seam, spans in ((8, 1, 9), (8, 5, 4), (8, 8, 2), (25, 1, 26), (25, 25, 2), (25, 13, 14)):
         l = basin(degree, seam, spans)
         yield 'ring-%d-%d' % (degree, seam), sheet(l, SPOKE, S=0)
@@ -730,7 +732,8 @@ def turns():
 
 
 def seam_spans():
-    """The spans at the seam one by one, with uneven knots and poles; the gap lists each, with the box of its net."""
+    """The spans at the seam one by one, with uneven knots and poles; the gap lists
+    each, with the box of its net."""
     for degree in (1, 2, 3, 4, 5):
         for seam in range(1, degree + 1):
             n = degree + 2
@@ -738,7 +741,8 @@ def seam_spans():
             l.poles = [(x * (1 + i % 2), y, z + i) for i, (x, y, z) in enumerate(l.poles)]
             for way, weights in (('plain', None), ('weights', [1.0 + i % 3 * 0.5 for i in range(len(l.poles))])):
                 l.weights = weights
-                for at, r in (('first', (l.knots[0], l.knots[1])), ('last', (l.knots[n - 1], l.knots[n])), ('again', from_to(l, l.knots[n - 1] + 0.5, 0.875))):
+                over = l.knots[n - 1] + 0.5
+                for at, r in (('first', l.knots[:2]), ('last', l.knots[n - 1:]), ('again', (over, over + 0.875))):
                     yield 'seam-%d-%d-%s-%s' % (degree, seam, way, at), sheet(l, UNIT, S=0, ranges=[r, None], gap=60.0)
 
 
@@ -746,7 +750,7 @@ def seams():
     """Rings against each other, with weights, inner multiplicities, far knots."""
     for i, (a, b) in enumerate([(TRIANGLE, SQUARE), (SQUARE, TRIANGLE), (TRIANGLE, TRIANGLE), (SQUARE, A), (A, SQUARE)]):
         for lo in (0.0, 0.5, 2.5):
-            ranges = [from_to(l, lo, period(l)) if l.closed else None for l in (a, b)]
+            ranges = [turn_from(l, lo) if l.closed else None for l in (a, b)]
             yield 'closed-pair-%d-%g' % (i, lo), sheet(a, b, S=2, ranges=ranges)
     for degree in (1, 2, 3):
         for inner in range(1, degree + 1):
@@ -757,16 +761,17 @@ def seams():
     for lo in (0.0, 3.3):
         for i, m in enumerate(([1, 2, 1, 3, 1], [2, 1, 3, 1, 2], [3, 1, 2, 1, 3], [1, 3, 3, 3, 1])):
             l = ring(3, [0, 1, 2, 3, 4], m, round_poles(sum(m) - m[0]))
-            yield 'closed-mults-%d-%g' % (i, lo), sheet(l, SPOKE, S=6, ranges=[from_to(l, lo, 4.0), None])
+            yield 'closed-mults-%d-%g' % (i, lo), sheet(l, SPOKE, S=6, ranges=[turn_from(l, lo), None])
     far = [-BINADE(20), -3.0, 0.5, BINADE(20)]
     for lo in (far[0], -7.5, 0.5, 9.0):
         l = basin(2, 1, 3, far)
-        yield 'closed-far-%g' % lo, sheet(l, SPOKE, S=2, ranges=[from_to(l, lo, period(l)), None])
+        yield 'closed-far-%g' % lo, sheet(l, SPOKE, S=2, ranges=[turn_from(l, lo), None])
     # few poles: the knots of a span come round more than once
-    for degree, m in ((2, [2, 1, 2]), (3, [3, 1, 3]), (3, [2, 2, 2]), (3, [1, 3, 1]), (5, [3, 3, 3]), (5, [1, 5, 1]), (2, [1, 1, 1, 1])):
+    for degree, m in ((2, [2, 1, 2]), (3, [3, 1, 3]), (3, [2, 2, 2]), (3, [1, 3, 1]), (5, [3, 3, 3]), (5, [1, 5, 1]),
+                      (2, [1, 1, 1, 1])):
         l = ring(degree, [0.0, 0.75, 2.0, 2.5][:len(m)], m, round_poles(sum(m) - m[0]))
         for lo in (0.0, 1.9):
-            yield 'closed-least-%d-%d-%g' % (degree, m[0], lo), sheet(l, SPOKE, S=2, ranges=[from_to(l, lo, period(l)), None])
+            yield 'closed-least-%d-%d-%g' % (degree, m[0], lo), sheet(l, SPOKE, S=2, ranges=[turn_from(l, lo), None])
 
 
 ROUNDING = [[-0.7, -0.3, 0.1, 0.3, 0.6], [-0.697481702000372, -0.5, -0.1, 0.45022719274630707], [0.1, 0.2, 0.3, 0.7],
@@ -782,9 +787,10 @@ def rounded_periods():
             if len(l.poles) <= degree:
                 continue
             last = knots[-1]
-            for name, r in (('turn', (knots[0], last)), ('inner', from_to(l, knots[1], period(l))),
+            half = 0.5 * (knots[n - 1] + last)
+            for name, r in (('turn', (knots[0], last)), ('inner', turn_from(l, knots[1])),
                             ('past', (beside(last, -3), beside(last, 5))), ('below', (beside(last, -4), last)),
-                            ('over', from_to(l, 0.5 * (knots[n - 1] + last), 0.5 * period(l)))):
+                            ('over', (half, half + 0.5 * period(l)))):
                 yield 'rounded-%d-%d-%d-%s' % (i, degree, seam, name), sheet(l, SPOKE, S=1, ranges=[r, None])
     yield 'rounded-to-turn', sheet(basin(1, 1, 3, ROUNDING[6]), SPOKE, S=0, ranges=[(beside(2.0, -2), 3.0), None])
 
@@ -804,70 +810,86 @@ def lost_spans():
         yield 'lost-first-S%d' % s, sheet(FIRST_SIDE, first, S=s, ranges=[(-400.0, 600.0), None])
         yield 'lost-first-second-S%d' % s, sheet(first, FIRST_SIDE, S=s, ranges=[None, (-400.0, 600.0)])
     # the last doubles of a turn, whose quotient rounds to 1; the gap lists them
-    for i, (degree, knots, seam) in enumerate([(4, [-0.7, 0.6, 0.7, 0.8], 1), (4, [-3.3, -2.0, -1.374, -1.274, 0.026, 0.326], 2),
-                                               (5, [-3.3, -2.0, -1.3, -1.0, -0.663, -0.585], 4), (3, [-1.0, 0.0, 1.0, 2.0], 2)]):
+    rings = [(4, [-0.7, 0.6, 0.7, 0.8], 1), (4, [-3.3, -2.0, -1.374, -1.274, 0.026, 0.326], 2),
+             (5, [-3.3, -2.0, -1.3, -1.0, -0.663, -0.585], 4), (3, [-1.0, 0.0, 1.0, 2.0], 2)]
+    for i, (degree, knots, seam) in enumerate(rings):
         l = basin(degree, seam, len(knots) - 1, knots, inner=degree - 1)
-        for name, r in (('to', (beside(knots[-1], -2), knots[-1])), ('over', (beside(knots[-1], -2), knots[-1] + 0.05))):
-            yield 'last-doubles-%d-%s' % (i, name), sheet(l, UNIT, S=0, ranges=[r, None], gap=20.0)
+        for name, hi in (('to', knots[-1]), ('over', knots[-1] + 0.05)):
+            yield 'last-doubles-%d-%s' % (i, name), sheet(l, UNIT, S=0, ranges=[(beside(knots[-1], -2), hi), None], gap=20.0)
+
+
+CLOSED_SPOILS = {
+    22: lambda l: l.mults.__setitem__(0, 1), 4: lambda l: setattr(l, 'degree', 26), 5: lambda l: l.mults.insert(1, 1),
+    6: lambda l: l.knots.__setitem__(2, NAN), 7: lambda l: l.knots.__setitem__(1, l.knots[0]),
+    8: lambda l: l.mults.__setitem__(1, 3), 9: lambda l: l.mults.__setitem__(1, 0), 10: lambda l: l.poles.append((1, 1, 1)),
+    12: lambda l: setattr(l, 'weights', [1.0] * 9), 13: lambda l: setattr(l, 'weights', [0.0] * len(l.poles)),
+    14: lambda l: l.poles.__setitem__(0, (NAN, 0, 0))}
 
 
 def closed_faults():
-    """22 and the numbers around it, on either line."""
-    good = lambda: basin(2, 2, 3)
-    faults = {22: lambda l: l.mults.__setitem__(0, 1)}
-    faults[4] = lambda l: setattr(l, 'degree', 26)
-    faults[5] = lambda l: l.mults.insert(1, 1)
-    faults[6] = lambda l: l.knots.__setitem__(2, NAN)
-    faults[7] = lambda l: l.knots.__setitem__(1, l.knots[0])
-    faults[8] = lambda l: l.mults.__setitem__(1, 3)
-    faults[9] = lambda l: l.mults.__setitem__(1, 0)
-    faults[10] = lambda l: l.poles.append((1, 1, 1))
-    faults[12] = lambda l: setattr(l, 'weights', [1.0] * 9)
-    faults[13] = lambda l: setattr(l, 'weights', [0.0] * len(l.poles))
-    faults[14] = lambda l: l.poles.__setitem__(0, (NAN, 0, 0))
-    for number, spoil in faults.items():
-        for name, other in [('alone', None)] + ([('with-%d' % n, f) for n, f in faults.items()] if number == 22 else []):
-            l = good()
-            spoil(l)
-            if other is not None and other is not spoil:
-                other(l)
-            yield 'closed-no%d-%s' % (number, name), sheet(l, A, ranges=[(0, 1), None])
-            yield 'closed-no%d-%s-second' % (number, name), sheet(A, l, ranges=[None, (0, 1)])
+    """4 to 14 and 22 of a closed line, and 22 with each of the others, on either line."""
+    pairs = [(n, None) for n in CLOSED_SPOILS] + [(22, n) for n in CLOSED_SPOILS if n != 22]
+    for number, other in pairs:
+        l = basin(2, 2, 3)
+        CLOSED_SPOILS[number](l)
+        if other is not None:
+            CLOSED_SPOILS[other](l)
+        name = 'closed-no%d' % number + ('' if other is None else '-with-%d' % other)
+        yield name, sheet(l, A, ranges=[(0, 1), None])
+        yield name + '-second', sheet(A, l, ranges=[None, (0, 1)])
     wrong = basin(2, 2, 3)
     wrong.mults[-1] = 1
-    for name, (a, b) in {'22-22': (wrong, wrong), '22-4': (wrong, line(0, [], [], [])), '14-22': (segment((NAN, 0, 0), (1, 0, 0)), wrong)}.items():
+    for name, a, b in (('22-22', wrong, wrong), ('22-4', wrong, line(0, [], [], [])),
+                       ('14-22', segment((NAN, 0, 0), (1, 0, 0)), wrong)):
         yield 'closed-' + name, sheet(a, b, ranges=[(0, 1), (0, 1)])
     yield 'closed-22-15', sheet(wrong, A, ranges=[(9, 1), None])
-    # end multiplicities: huge ones, one over the degree, 0, and an open line's
-    for name, degree, m in (('huge-first', 1, [0xFFFFFFFF, 1, 1]), ('huge-last', 1, [1, 1, 0xFFFFFFFF]), ('huge', 1, [0xFFFFFFFF, 1, 0xFFFFFFFF]),
-                            ('over', 2, [3, 1, 3]), ('over-1', 1, [2, 1, 2]), ('full', 2, [2, 2, 2]), ('zero', 1, [0, 2, 0]), ('zeros', 2, [0, 1, 1, 1, 0]),
-                            ('zero-last', 1, [1, 1, 0]), ('inner-over', 2, [2, 3, 2]), ('over-differ', 2, [3, 1, 4]), ('over-less', 2, [2, 1, 3])):
-        poles = round_poles(min(sum(m) - m[-1], 9))
-        for way, count in (('last', sum(m) - m[-1]), ('degree', sum(m) - degree - 1)):
-            l = ring(degree, range(len(m)), m, poles[:max(0, min(9, count))])
-            yield 'closed-ends-%s-%s' % (name, way), sheet(l, A, S=1, ranges=[(0, 1), None])
-        yield 'open-ends-%s' % name, sheet(line(degree, range(len(m)), m, poles[:max(0, min(9, sum(m) - degree - 1))]), A, S=1, ranges=[(0, 1), None])
-    # 10 and 11: a pole more, a pole less, one span, as many poles as the degree, 128 and 129 poles
-    for name, l in (('more', basin(1, 1, 3)), ('fewer', basin(1, 1, 3)), ('one-span', ring(2, [0, 1], [2, 2], round_poles(2))),
-                    ('one-span-25', ring(25, [0, 1], [25, 25], round_poles(25))), ('degree-poles', ring(3, [0, 1, 2], [1, 2, 1], round_poles(3))),
-                    ('width-poles', ring(3, [0, 1, 2], [1, 3, 1], round_poles(4))), ('poles-128', ring(2, range(65), [2] * 65, round_poles(128))),
-                    ('poles-129', ring(2, range(66), [1] + [2] * 64 + [1], round_poles(129))), ('no-poles', ring(1, [0, 1, 2], [1, 1, 1], []))):
-        l.poles = l.poles + [(1, 1, 1)] if name == 'more' else l.poles[1:] if name == 'fewer' else l.poles
-        yield 'closed-poles-%s' % name, sheet(l, segment((9.5, -1, 0), (9.5, 1, 1)), S=0)
-        yield 'closed-poles-%s-second' % name, sheet(segment((9.5, -1, 0), (9.5, 1, 1)), l, S=0)
+
+
+HUGE = 0xFFFFFFFF
+END_MULTS = {'huge-first': (1, [HUGE, 1, 1]), 'huge-last': (1, [1, 1, HUGE]), 'huge': (1, [HUGE, 1, HUGE]),
+             'over': (2, [3, 1, 3]), 'over-1': (1, [2, 1, 2]), 'full': (2, [2, 2, 2]), 'zero': (1, [0, 2, 0]),
+             'zeros': (2, [0, 1, 1, 1, 0]), 'zero-last': (1, [1, 1, 0]), 'inner-over': (2, [2, 3, 2]),
+             'over-differ': (2, [3, 1, 4]), 'over-less': (2, [2, 1, 3])}
+
+
+def closed_ends():
+    """End multiplicities: huge ones, one over the degree, 0; as many poles as a closed
+    line has and as many as an open one; the same of an open line."""
+    for name, (degree, m) in END_MULTS.items():
+        poles = lambda beyond: round_poles(9)[:max(0, min(9, sum(m) - beyond))]
+        closed = lambda beyond: ring(degree, range(len(m)), m, poles(beyond))
+        yield 'closed-ends-%s-last' % name, sheet(closed(m[-1]), A, S=1, ranges=[(0, 1), None])
+        yield 'closed-ends-%s-degree' % name, sheet(closed(degree + 1), A, S=1, ranges=[(0, 1), None])
+        plain = line(degree, range(len(m)), m, poles(degree + 1))
+        yield 'open-ends-%s' % name, sheet(plain, A, S=1, ranges=[(0, 1), None])
+
+
+def closed_poles():
+    """10 and 11: a pole more, a pole less, one span, as many poles as the degree, 128 and 129 poles."""
+    even = lambda degree, m, n: ring(degree, range(len(m)), m, round_poles(n))
+    lines = {'more': even(1, [1] * 4, 4), 'fewer': even(1, [1] * 4, 2), 'none': even(1, [1] * 3, 0),
+             'one-span': even(2, [2, 2], 2), 'one-span-25': even(25, [25, 25], 25), 'degree': even(3, [1, 2, 1], 3),
+             'width': even(3, [1, 3, 1], 4), '128': even(2, [2] * 65, 128), '129': even(2, [1] + [2] * 64 + [1], 129)}
+    other = segment((9.5, -1, 0), (9.5, 1, 1))
+    for name, l in lines.items():
+        yield 'closed-poles-%s' % name, sheet(l, other, S=0)
+        yield 'closed-poles-%s-second' % name, sheet(other, l, S=0)
 
 
 def closed_ranges():
     """Number 15 of a closed line, at each of its ends."""
     unit = ring(1, [0.0, 0.25, 0.5, 1.0], [1] * 4, TRIANGLE.poles)
     half = BINADE(-53)
-    ranges = {'whole': (0.0, 1.0), 'at-first': (0.0, 0.5), 'minus-zero': (-0.0, 1.0), 'below-first': (-TINY, 0.5), 'at-last': (1.0, 1.5), 'at-last-turn': (1.0, 2.0),
-              'below-last': (beside(1.0, -1), 1.5), 'below-last-turn': (beside(1.0, -1), beside(2.0, -1)), 'after-last': (1.25, 1.5),
-              'second-turn': (1.5, 1.75), 'period': (0.25, 1.25), 'over-period': (0.25, beside(1.25, 1)), 'under-period': (0.25, beside(1.25, -1)),
-              'rounded-period': (half, beside(1.0, 1)), 'rounded-longer': (1.5 * half, beside(1.0, 1)), 'rounded-two': (half, beside(1.0, 2)),
-              'rounded-back': (0.5 * half, beside(1.0, 1)), 'empty': (0.5, 0.5), 'falling': (0.75, 0.5), 'falling-over': (0.75, -0.5),
-              'nan': (NAN, 1.0), 'nan-hi': (0.0, NAN), 'inf': (0.5, INF), 'minus-inf': (-INF, 0.5), 'inf-both': (-INF, INF), 'inf-lo': (INF, INF),
-              'max': (0.5, 1.7e308), 'two-turns': (0.0, 2.0)}
+    ranges = {
+        'whole': (0.0, 1.0), 'at-first': (0.0, 0.5), 'minus-zero': (-0.0, 1.0), 'below-first': (-TINY, 0.5),
+        'at-last': (1.0, 1.5), 'at-last-turn': (1.0, 2.0), 'below-last': (beside(1.0, -1), 1.5),
+        'below-last-turn': (beside(1.0, -1), beside(2.0, -1)), 'after-last': (1.25, 1.5), 'second-turn': (1.5, 1.75),
+        'period': (0.25, 1.25), 'over-period': (0.25, beside(1.25, 1)), 'under-period': (0.25, beside(1.25, -1)),
+        'rounded-period': (half, beside(1.0, 1)), 'rounded-longer': (1.5 * half, beside(1.0, 1)),
+        'rounded-two': (half, beside(1.0, 2)), 'rounded-back': (0.5 * half, beside(1.0, 1)), 'empty': (0.5, 0.5),
+        'falling': (0.75, 0.5), 'falling-over': (0.75, -0.5), 'nan': (NAN, 1.0), 'nan-hi': (0.0, NAN), 'inf': (0.5, INF),
+        'minus-inf': (-INF, 0.5), 'inf-both': (-INF, INF), 'inf-lo': (INF, INF), 'max': (0.5, 1.7e308),
+        'two-turns': (0.0, 2.0)}
     for name, r in ranges.items():
         yield 'closed-range-%s' % name, sheet(unit, A, S=0, ranges=[r, None])
         yield 'closed-range-%s-second' % name, sheet(A, unit, S=0, ranges=[None, r])
@@ -888,8 +910,8 @@ FALLING = [[-0.623, beside(-0.623, 1), 1.0, 3.0, 7.42], [-0.036, beside(-0.036, 
 def closed_breaks():
     """Number 18: knots that come again at or below a break; and lists that just pass."""
     onto = ring(1, [0.0, BINADE(-60), 0.5, 1.0], [1] * 4, TRIANGLE.poles)
-    for name, r in (('onto', (0.25, 1.25)), ('onto-short', (0.5, 1.0)), ('onto-past', (0.5, beside(1.0, 2))), ('onto-turn', (0.0, 1.0)),
-                    ('onto-half', (BINADE(-61), 1.0)), ('onto-last', (beside(1.0, -2), 1.5))):
+    for name, r in (('onto', (0.25, 1.25)), ('onto-short', (0.5, 1.0)), ('onto-past', (0.5, beside(1.0, 2))),
+                    ('onto-turn', (0.0, 1.0)), ('onto-half', (BINADE(-61), 1.0)), ('onto-last', (beside(1.0, -2), 1.5))):
         yield 'closed-%s' % name, sheet(onto, A, S=0, ranges=[r, None])
         yield 'closed-%s-second' % name, sheet(A, onto, S=0, ranges=[None, r])
     near = ring(1, [0.0, BINADE(-52), 0.5, 1.0], [1] * 4, TRIANGLE.poles)
@@ -914,16 +936,18 @@ def closed_memory():
     off = segment((0, 500, 0), (9, 500, 0))
     for degree, spans in ((25, 77), (25, 78), (25, 79), (15, 126), (15, 127), (1, 127)):
         l = basin(degree, 1, spans)
-        yield 'closed-pieces-%d-%d' % (degree, spans), sheet(l, off, S=1)
-        yield 'closed-pieces-%d-%d-inside' % (degree, spans), sheet(l, off, S=1, ranges=[(3.5, 3.5 + spans), None])
-        yield 'closed-pieces-%d-%d-knot' % (degree, spans), sheet(off, l, S=1, ranges=[None, (3.0, 3.0 + spans)])
-        yield 'closed-pieces-%d-%d-inside-second' % (degree, spans), sheet(off, l, S=1, ranges=[None, (spans - 0.5, 2 * spans - 0.5)])
+        name = 'closed-pieces-%d-%d' % (degree, spans)
+        yield name, sheet(l, off, S=1)
+        yield name + '-inside', sheet(l, off, S=1, ranges=[turn_from(l, 3.5), None])
+        yield name + '-knot', sheet(off, l, S=1, ranges=[None, turn_from(l, 3.0)])
+        yield name + '-inside-second', sheet(off, l, S=1, ranges=[None, turn_from(l, spans - 0.5)])
     many = basin(1, 1, 127)
     yield 'closed-pairs', sheet(many, many, S=0, ranges=[(0.5, 127.5), (0.5, 127.5)], gap=100.0)
     for n in (12, 13):
         l = ring(1, range(n + 1), [1] * (n + 1), [(i % 2, i, 0) for i in range(n)])
-        yield 'closed-pairs-%d' % n, sheet(l, segment((0.5, -1, 0), (0.5, n, 0)), S=0, ranges=[(0.0, float(n)), None])
-        yield 'closed-pairs-%d-inside' % n, sheet(l, segment((0.5, -1, 0), (0.5, n, 0)), S=0, ranges=[(0.5, n + 0.5), None])
+        along = segment((0.5, -1, 0), (0.5, n, 0))
+        yield 'closed-pairs-%d' % n, sheet(l, along, S=0)
+        yield 'closed-pairs-%d-inside' % n, sheet(l, along, S=0, ranges=[turn_from(l, 0.5), None])
 
 
 def closed_words():
@@ -947,7 +971,8 @@ def closed_words():
 
 def closed_drawn():
     """All drawn sheets with closed lines: (name, bytes)."""
-    for part in (turns, seam_spans, seams, rounded_periods, lost_spans, closed_faults, closed_ranges, closed_breaks, closed_memory, closed_words):
+    for part in (turns, seam_spans, seams, rounded_periods, lost_spans, closed_faults, closed_ends, closed_poles,
+                 closed_ranges, closed_breaks, closed_memory, closed_words):
         yield from part()
 
 
@@ -1391,13 +1416,14 @@ def random_ring(rng, style, spans=None, degree=None):
 
 
 def ring_range(rng, l):
-    """A range that is nearly always admitted: from a knot, beside one, or from inside; a turn, a part or a few doubles."""
+    """A range that is nearly always admitted: from a knot, beside one, or from inside;
+    a turn, a part or a few doubles."""
     first, last = l.bounds()
     if not l.closed or not first < last:
         return random_range(rng, l)
     k = l.knots[rng.below(len(l.knots) - 1)]
-    lo = rng.pick([first, first, k, beside(k, 1 + rng.below(3)), beside(k, -1 - rng.below(3)), beside(last, -1 - rng.below(4)),
-                   rng.between(first, last), rng.between(first, last)])
+    lo = rng.pick([first, first, k, beside(k, 1 + rng.below(3)), beside(k, -1 - rng.below(3)),
+                   beside(last, -1 - rng.below(4)), rng.between(first, last), rng.between(first, last)])
     lo = lo if first <= lo < last else first
     way = rng.below(8)
     if way < 3:
@@ -1468,7 +1494,8 @@ def kind_ring_spoilt(rng):
         spoil_into(a, 4 + rng.below(11), rng)
     if number == 15 or rng.chance(0.1):
         first, last = a.bounds()
-        ranges[0] = rng.pick([(last, last + 1.0), (beside(last, -1), INF), (NAN, last), (beside(first, -1), last), (first, beside(last, 1)), (first, first)])
+        ranges[0] = rng.pick([(last, last + 1.0), (beside(last, -1), INF), (NAN, last), (beside(first, -1), last),
+                              (first, beside(last, 1)), (first, first)])
     if number == 16:
         gap = rng.pick(BAD_FLOATS + [-1.0, 2e7])
     if number == 17:
@@ -1505,14 +1532,16 @@ def kind_ring_pieces(rng):
     """Many pieces, few pairs."""
     degree = rng.pick([1, 2, 3, 8, 15, 25])
     spans = max(degree + 1, rng.pick([20, 60, 77, 78, 79, 100, 126, 127]))
-    a = ring(degree, ring_knots(rng, spans + 1) if rng.chance(0.3) else range(spans + 1), [1] * (spans + 1), round_poles(spans, 50.0))
+    knots = ring_knots(rng, spans + 1) if rng.chance(0.3) else range(spans + 1)
+    a = ring(degree, knots, [1] * (spans + 1), round_poles(spans, 50.0))
     b = segment((rng.between(-60.0, 60.0), rng.between(-60.0, 60.0), 0.0), (rng.between(30.0, 60.0), rng.unit(), 1.0))
     ranges = [ring_range(rng, a), None]
     pair = (a, b) if rng.chance(0.5) else (b, a)
     return sheet(pair[0], pair[1], rng.below(10), ranges if pair[0] is a else ranges[::-1], rng.pick([0.0, 0.1]))
 
 
-CLOSED_KINDS = [(kind_rings, 40), (kind_ring_doubles, 30), (kind_ring_spoilt, 12), (kind_ring_damaged, 8), (kind_ring_pieces, 10)]
+CLOSED_KINDS = [(kind_rings, 40), (kind_ring_doubles, 30), (kind_ring_spoilt, 12), (kind_ring_damaged, 8),
+                (kind_ring_pieces, 10)]
 
 
 def random_sheet(rng, kinds):
@@ -1575,8 +1604,9 @@ REPLAY_ALSO = {
 
 
 CLOSED_SEED, CLOSED_TRIED, CLOSED_BYTES, CLOSED_TEXT = 100, 3000, 1200, 800
-CLOSED_GROUPS = [(turns, 4), (seam_spans, 1), (seams, 1), (rounded_periods, 2), (lost_spans, 1), (closed_faults, 1), (closed_ranges, 1),
-                 (closed_breaks, 1), (closed_memory, 1), (closed_words, 1)]
+CLOSED_GROUPS = [(turns, 4), (seam_spans, 1), (seams, 1), (rounded_periods, 2), (lost_spans, 1), (closed_faults, 1),
+                 (closed_ends, 1), (closed_poles, 1), (closed_ranges, 1), (closed_breaks, 1),
+                 (closed_memory, 1), (closed_words, 1)]
 
 
 def closed_replay_sheets(program):

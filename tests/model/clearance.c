@@ -409,9 +409,9 @@ static double place(const Line *l, double t)
  * either way, a period on or back; at the seam itself the end knots stand. */
 static double flat_knot(const Line *l, int i)
 {
-    int n = (int)l->pole_count;
+    int n = (int)l->pole_count, m = (int)l->mults[0];
     if (l->closed && i < 0) return l->flat[i + n] - period(l);
-    if (l->closed && i >= n + (int)l->mults[0]) return l->flat[i - n] + period(l);
+    if (l->closed && i >= n + m) return l->flat[i - n] + period(l);
     return l->flat[i];
 }
 
@@ -425,7 +425,7 @@ static uint32_t find_span(const Line *l, double u)
 }
 
 /* The 2 * degree knots around the span of u, relative to u (span_knots);
- * gives the first pole of the span: a closed line's first span has pole 0 first.
+ * gives the first pole of the span, which is pole 0 on a closed line's first.
  * The span runs from around[degree - 1] to around[degree]. */
 static uint32_t knots_around(const Line *l, double u, double *around)
 {
@@ -1002,7 +1002,7 @@ static Refusal ask(const Sheet *sheet, Search *s)
     return refusal(0, 0);
 }
 
-/* Numbers 1 to 19 and 22 in the table's order; number 0 leaves an open search. */
+/* Numbers 1 to 19 and 22 in the table's order; 0 leaves an open search. */
 static Refusal open_sheet(const unsigned char *bytes, size_t length,
                           Sheet *sheet, Search *s)
 {
