@@ -8,6 +8,4 @@ pub mod Climbs
 pub mod Spans
 pub mod Breaks
 pub mod Stretches
-pub mod Units
-pub mod Turns
 pub mod Facts
