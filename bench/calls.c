@@ -9,7 +9,7 @@
 #define SLICE(a) (a), sizeof (a) / sizeof *(a)
 
 struct line {
-    uint32_t degree, mults[4096];
+    uint32_t closed, degree, mults[4096];
     double knots[2048], coords[2048], weights[2048];
     size_t knot_count, mult_count, coord_count, weight_count;
 };
@@ -39,7 +39,8 @@ static size_t floats(double *to, size_t n)
 
 static void read_line(struct line *l)
 {
-    l->degree = (uint32_t)count_of(1);
+    l->closed = next < word_count && words[next] >> 28 == 8;
+    l->degree = (uint32_t)count_of(l->closed ? 8 : 1);
     l->knot_count = floats(l->knots, count_of(2));
     l->mult_count = count_of(3);
     if (next + l->mult_count > word_count) exit(2);
@@ -73,8 +74,8 @@ int main(int argc, char **argv)
     if (turns < 1) return 2;
     for (long i = 0; i < turns; i++)
         if (lovgurshem_open(asked[0], asked[1], asked[2], asked[3], asked[4], splits,
-                first.degree, first.knots, first.knot_count, first.mults, first.mult_count, first.coords, first.coord_count, first.weights, first.weight_count,
-                second.degree, second.knots, second.knot_count, second.mults, second.mult_count, second.coords, second.coord_count, second.weights, second.weight_count,
+                first.closed, first.degree, first.knots, first.knot_count, first.mults, first.mult_count, first.coords, first.coord_count, first.weights, first.weight_count,
+                second.closed, second.degree, second.knots, second.knot_count, second.mults, second.mult_count, second.coords, second.coord_count, second.weights, second.weight_count,
                 SLICE(pieces1), SLICE(pieces2), SLICE(nets1), SLICE(nets2), SLICE(ranges), SLICE(depths), SLICE(raw), SLICE(state)) != 0
             || (steps ? take_steps() : lovgurshem_run(SLICE(state), SLICE(nets1), SLICE(nets2), SLICE(ranges), SLICE(depths), SLICE(raw))) != 0
             || lovgurshem_report(SLICE(state), SLICE(nets1), SLICE(nets2), SLICE(ranges), SLICE(depths), SLICE(raw), SLICE(report), SLICE(counts)) != 0)

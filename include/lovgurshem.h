@@ -26,12 +26,13 @@
  * are called, and nothing else.
  *
  * NUMBERS. Answers of open, step, run and report are 0, or the number of the
- * refusal: 4 to 14 a line's fault, 15 to 18 the question's, 19 a slice that is
- * shorter than needed or a state that is no search's, 20 a search that has
- * ended, 21 one that hasn't. A line's fault, range or breaks (4 to 15 and 18)
- * have 256 times the line, 1 or 2, added. They are tested in this order:
- *   open     4 to 14 of the first line, then of the second; 15 to 18; 19 for
- *            the state's words and the pieces; 19 for the rest
+ * refusal: 4 to 14 and 22 a line's fault, 15 to 18 the question's, 19 a slice
+ * that is shorter than needed or a state that is no search's, 20 a search that
+ * has ended, 21 one that hasn't. A line's fault, range or breaks (4 to 15, 18
+ * and 22) have 256 times the line, 1 or 2, added. They are tested in this order:
+ *   open     4 to 14 of the first line, with 22 of a closed one after 7; the
+ *            same of the second; 15 to 18; 19 for the state's words and the
+ *            pieces; 19 for the rest
  *   others   19 for words that are no state's (below), before everything else;
  *            then in own verdict and step 20, in report 21; then 19, in report
  *            for the counts too (run is refused as the step that it takes)
@@ -68,7 +69,9 @@
  * SIZES, in elements, for P starting pairs, S splits per pair and
  * width = degree + 1 of a line:
  *   pieces of a line   4 * width for each piece (a piece lies between two
- *                      neighbours of lo, the knots strictly between, and hi)
+ *                      neighbours of lo, the knots strictly between, and hi;
+ *                      the knots of a closed line come again, all but the
+ *                      first, a period later)
  *   nets of a line     4 * width * (P + 64)
  *   ranges             4 * (P + 64)
  *   depths             P + 64
@@ -123,12 +126,14 @@ size_t lovgurshem_answer(const uint8_t *sheet, size_t sheet_length,
  * Opens a search: the stretch lo1 to hi1 of the first line against lo2 to hi2
  * of the second, for this gap, with at most so many splits per pair.
  *
- * A line is its degree, distinct knots, their multiplicities, three
- * coordinates a pole, and one weight a pole; a count of 0 weights means that
- * every weight is 1.
+ * A line is a number, 0 for an open one and any other for a closed one, its
+ * degree, distinct knots, their multiplicities, three coordinates a pole, and
+ * one weight a pole; a count of 0 weights means that every weight is 1. A closed
+ * line's period is its last knot less its first; its range starts from the first
+ * knot on and below the last, and is no longer than the period.
  *
- * Refused in this order: 4 to 14 of the first line, then of the second; 15 to
- * 18; 19 for fewer than LOVGURSHEM_STATE words or short pieces. So far nothing
+ * Refused in this order: 4 to 14 of the first line, 22 after 7, then of the
+ * second; 15 to 18; 19 for fewer than LOVGURSHEM_STATE words or short pieces. So far nothing
  * is written. Then the pieces' nets are written to pieces1 and pieces2, and 19
  * is tested for nets, ranges, depths and raw, whose contents it leaves, as it
  * leaves the words. At 0 the first P slots of nets, ranges and depths are the
@@ -137,12 +142,12 @@ size_t lovgurshem_answer(const uint8_t *sheet, size_t sheet_length,
  */
 uint32_t lovgurshem_open(double lo1, double hi1, double lo2, double hi2,
     double gap, uint32_t splits,
-    uint32_t degree1,
+    uint32_t closed1, uint32_t degree1,
     const double *knots1, size_t knots1_length,
     const uint32_t *mults1, size_t mults1_length,
     const double *coords1, size_t coords1_length,
     const double *weights1, size_t weights1_length,
-    uint32_t degree2,
+    uint32_t closed2, uint32_t degree2,
     const double *knots2, size_t knots2_length,
     const uint32_t *mults2, size_t mults2_length,
     const double *coords2, size_t coords2_length,

@@ -41,8 +41,8 @@ static uint32_t open_search(void)
 {
     static const double none[1]; /* weights: none, so each is 1 */
     return lovgurshem_open(0.0, 9.0, 0.0, 3.0, gap, SPLITS,
-        3, SLICE(track_knots), SLICE(track_mults), SLICE(track_coords), none, 0,
-        2, SLICE(outfall_knots), SLICE(outfall_mults), SLICE(outfall_coords), none, 0,
+        0, 3, SLICE(track_knots), SLICE(track_mults), SLICE(track_coords), none, 0,
+        0, 2, SLICE(outfall_knots), SLICE(outfall_mults), SLICE(outfall_coords), none, 0,
         SLICE(pieces1), SLICE(pieces2), SLICE(nets1), SLICE(nets2), SLICE(ranges), SLICE(depths), SLICE(raw), SLICE(state));
 }
 

@@ -12,9 +12,9 @@ mod sys {
         pub fn lovgurshem_answer(sheet: *const u8, sheet_length: usize, out: *mut u8, out_length: usize) -> usize;
         pub fn lovgurshem_open(
             lo1: f64, hi1: f64, lo2: f64, hi2: f64, gap: f64, splits: u32,
-            degree1: u32, knots1: *const f64, knots1_length: usize, mults1: *const u32, mults1_length: usize,
+            closed1: u32, degree1: u32, knots1: *const f64, knots1_length: usize, mults1: *const u32, mults1_length: usize,
             coords1: *const f64, coords1_length: usize, weights1: *const f64, weights1_length: usize,
-            degree2: u32, knots2: *const f64, knots2_length: usize, mults2: *const u32, mults2_length: usize,
+            closed2: u32, degree2: u32, knots2: *const f64, knots2_length: usize, mults2: *const u32, mults2_length: usize,
             coords2: *const f64, coords2_length: usize, weights2: *const f64, weights2_length: usize,
             pieces1: *mut f64, pieces1_length: usize, pieces2: *mut f64, pieces2_length: usize,
             nets1: *mut f64, nets1_length: usize, nets2: *mut f64, nets2_length: usize,
@@ -52,6 +52,7 @@ fn answer(sheet: &[u8]) -> Vec<u8> {
 
 /// A line, as the opening takes it; no weights means that each is 1.
 struct Line<'a> {
+    closed: bool,
     degree: u32,
     knots: &'a [f64],
     mults: &'a [u32],
@@ -90,9 +91,9 @@ impl Search {
         let no = unsafe {
             sys::lovgurshem_open(
                 range1.0, range1.1, range2.0, range2.1, gap, splits,
-                a.degree, a.knots.as_ptr(), a.knots.len(), a.mults.as_ptr(), a.mults.len(),
+                a.closed as u32, a.degree, a.knots.as_ptr(), a.knots.len(), a.mults.as_ptr(), a.mults.len(),
                 a.coords.as_ptr(), a.coords.len(), a.weights.as_ptr(), a.weights.len(),
-                b.degree, b.knots.as_ptr(), b.knots.len(), b.mults.as_ptr(), b.mults.len(),
+                b.closed as u32, b.degree, b.knots.as_ptr(), b.knots.len(), b.mults.as_ptr(), b.mults.len(),
                 b.coords.as_ptr(), b.coords.len(), b.weights.as_ptr(), b.weights.len(),
                 pieces1.as_mut_ptr(), pieces1.len(), pieces2.as_mut_ptr(), pieces2.len(),
                 s.nets1.as_mut_ptr(), s.nets1.len(), s.nets2.as_mut_ptr(), s.nets2.len(),
@@ -174,6 +175,7 @@ fn search(track: &Line, outfall: &Line) -> Result<(), Refused> {
 
 fn main() {
     let track = Line {
+        closed: false,
         degree: 3,
         knots: &[0.0, 1.0, 2.0, 3.0, 4.0, 5.0, 6.0, 7.0, 8.0, 9.0],
         mults: &[4, 1, 1, 1, 1, 1, 1, 1, 1, 4],
@@ -185,6 +187,7 @@ fn main() {
         weights: &[],
     };
     let outfall = Line {
+        closed: false,
         degree: 2,
         knots: &[0.0, 1.0, 2.0, 3.0],
         mults: &[3, 1, 1, 3],

@@ -387,7 +387,9 @@ static void draw_line(Drawn *d)
     uint32_t p = one_in(spans == 2 ? 40 : 12) ? 1 + (uint32_t)below(25) : 1 + (uint32_t)below(4);
     size_t n = 2 + below((uint64_t)spans), poles, sum = 0;
     double t = one_in(2) ? 0.0 : coarse();
-    int rational = one_in(3);
+    int rational = one_in(3), closed = one_in(3);
+    uint32_t seam = 1 + (uint32_t)below(p);
+    d->given.closed = !closed ? 0 : one_in(4) ? (uint32_t)chance() | 1 : 1;
     d->given.degree = p;
     for (size_t i = 0; i < n; i++) {
         int end = i == 0 || i == n - 1;
@@ -396,13 +398,16 @@ static void draw_line(Drawn *d)
         d->mults[i] = end ? p + 1 : 1 + (uint32_t)below(p);
         if (spans > 5 && !end && !one_in(6)) d->mults[i] = 1;
         if (one_in(12)) d->mults[i] = 1 + (uint32_t)below(p);
+        if (closed && end) d->mults[i] = seam;
+        if (closed && n == 3 && !end) d->mults[i] = p;
         sum += d->mults[i];
     }
-    if (sum < 2 * p + 2 && !(sum > p && one_in(4))) {
+    if (!closed && sum < 2 * p + 2 && !(sum > p && one_in(4))) {
         sum += 2 * p + 2 - d->mults[0] - d->mults[n - 1];
         d->mults[0] = d->mults[n - 1] = p + 1;
     }
-    poles = sum - p - 1 > 600 ? 600 : sum - p - 1;
+    poles = closed ? sum - seam : sum - p - 1;
+    if (poles > 600) poles = 600;
     for (size_t i = 0; i < 3 * poles; i++) d->coords[i] = i % 3 == 2 && one_in(2) ? 0.0 : one_in(4) ? fine() : coarse();
     for (size_t i = 0; i < poles; i++) d->weights[i] = one_in(2) ? 1.0 : 0.5 + (double)below(9) * 0.25;
     d->given.knot_count = d->given.mult_count = n;
@@ -450,8 +455,10 @@ static int do_open(State *s, int spoil)
             if (at <= poles) hi = k;
             at += g->mults[k] > 100 ? 100 : g->mults[k];
         }
+        if (g->closed) lo = (uint32_t)below(g->knot_count + 1) % 160, hi = lo;
         range[i][0] = d[i].knots[lo];
-        range[i][1] = d[i].knots[hi];
+        range[i][1] = g->closed ? d[i].knots[lo] + (d[i].knots[g->knot_count > 0 ? g->knot_count - 1 : 0] - d[i].knots[0]) : d[i].knots[hi];
+        if (g->closed && one_in(3)) range[i][1] -= (double)below(8) * 0.25;
         if (one_in(3)) range[i][0] += 0.25;
         if (one_in(3)) range[i][1] -= one_in(2) ? 0.25 : 0x1p-30;
         if (spoil && one_in(10)) range[i][below(2)] = one_in(2) ? odd() : range[i][1] + 1.0;
@@ -472,7 +479,7 @@ static int do_open(State *s, int spoil)
     lent[1] = lend(&model, n, n[SLICES]);
     hand_words(NULL);
     Lent *a = &lent[0];
-#define LINE(g) (g).degree, (g).knots, (g).knot_count, (g).mults, (g).mult_count, (g).coords, (g).coord_count, (g).weights, (g).weight_count
+#define LINE(g) (g).closed, (g).degree, (g).knots, (g).knot_count, (g).mults, (g).mult_count, (g).coords, (g).coord_count, (g).weights, (g).weight_count
     uint32_t got = lovgurshem_open(range[0][0], range[0][1], range[1][0], range[1][1], gap, splits,
         LINE(d[0].given), LINE(d[1].given), PART(a->pieces[0]), PART(a->pieces[1]), PART(a->nets[0]), PART(a->nets[1]),
         PART(a->ranges), PART(a->depths), PART(a->raw), words[0], words_lent);

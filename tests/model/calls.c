@@ -42,7 +42,7 @@ typedef struct {
 
 /* A line as a call hands it over: counts of its own for each slice. */
 typedef struct {
-    uint32_t degree;
+    uint32_t closed, degree; /* 0 open, any other closed */
     size_t knot_count, mult_count, coord_count, weight_count;
     const double *knots, *coords, *weights;
     const uint32_t *mults;
@@ -271,11 +271,11 @@ static int report(const State *s, const Lent *m, Told *t)
     return 0;
 }
 
-/* A handed line as clearance.c has it; its number from 4 to 14, or 0. */
+/* A handed line as clearance.c has it; its number, 4 to 14 or 22, or 0. */
 static int take_given(const Given *g, Line *l)
 {
     int fault;
-    l->closed = 0; /* the calls take open lines */
+    l->closed = g->closed != 0;
     l->degree = g->degree;
     l->rational = g->weight_count > 0;
     l->knot_count = (uint32_t)g->knot_count;
@@ -288,13 +288,13 @@ static int take_given(const Given *g, Line *l)
     memcpy(l->weights, g->weights, g->weight_count * sizeof(double));
     fault = line_fault(l);
     /* 10: "or coordinates are no multiple of 3" */
-    if (g->coord_count % 3 != 0 && (fault == 0 || fault > 10)) fault = 10;
+    if (g->coord_count % 3 != 0 && (fault == 0 || (fault > 10 && fault != 22))) fault = 10;
     return fault;
 }
 
 /* ---- the calls: a state comes and goes as words ------------------------ */
 
-/* The opening: the number, with 256 times the line for 4 to 15 and 18, or 0
+/* The opening: the number, with 256 times the line for 4 to 15, 18 and 22, or 0
  * and the first state's words. The words are a lent slice as the pieces are. */
 static int call_open(const Given given[2], const double range[2][2], double gap,
                      uint32_t splits, const Lent *m, uint64_t *w, size_t n)

@@ -1,6 +1,7 @@
 -- Document 01's starred lines as one list of cases: roots, the pieces of a line, and whole searches (the opening, the loop with the own verdicts, the report, in as much memory
 -- as they need). A second list has nets with the Rust's bits and the bounds of a line with free ends; last, searches with several pieces. Definitions only.
 use mathlib.Core.Path.{_≡_}
+use mathlib.Core.Bool.{false}
 use mathlib.Core.List.{List, [], _∷_, map}
 use Prim.Native.Nat.{ℕ, suc, _*_}
 use lib.ListN.{replicate, take}
@@ -38,7 +39,7 @@ twelve64 = ofBits binary64 0x4028_0000_0000_0000
 
 -- the straight line from (x0, y0, 0) to (x1, y1, 0), degree 1, knots 0 and 1 doubled
 abbrev pub straight : Float → Float → Float → Float → Line
-straight x0 y0 x1 y1 = record { degree = 1; knots = zero64 ∷ one64 ∷ []; mults = 2 ∷ 2 ∷ []; coords = x0 ∷ y0 ∷ zero64 ∷ x1 ∷ y1 ∷ zero64 ∷ []; weights = [] }
+straight x0 y0 x1 y1 = record { closed = false; degree = 1; knots = zero64 ∷ one64 ∷ []; mults = 2 ∷ 2 ∷ []; coords = x0 ∷ y0 ∷ zero64 ∷ x1 ∷ y1 ∷ zero64 ∷ []; weights = [] }
 
 -- both whole ranges of two such lines
 abbrev pub question : Line → Line → Float → ℕ → Question
@@ -101,6 +102,7 @@ Holds (searching q a) = (search q ≡ a)
 -- degree 2, knots 0, 1, 2 with multiplicities 3, 1, 3, poles (0,0,0), (0,2,0), (2,2,0), (2,0,0)
 abbrev pub lineOfTwo : Line
 lineOfTwo = record {
+  closed = false;
   degree = 2;
   knots = zero64 ∷ one64 ∷ two64 ∷ [];
   mults = 3 ∷ 1 ∷ 3 ∷ [];
@@ -154,6 +156,7 @@ floats l = map (ofBits binary64) l
 abbrev pub weighted : Case
 weighted = pieces
     (record {
+      closed = false;
       degree = 3;
       knots = floats (0 ∷ 0x3ff0_0000_0000_0000 ∷ 0x4004_0000_0000_0000 ∷ []);
       mults = 4 ∷ 1 ∷ 4 ∷ [];
@@ -178,6 +181,7 @@ weighted = pieces
 abbrev pub cutTwice : Case
 cutTwice = pieces
     (record {
+      closed = false;
       degree = 3;
       knots = floats (0 ∷ 0x3fec_cccc_cccc_cccd ∷ 0x3ffe_6666_6666_6666 ∷ []);
       mults = 4 ∷ 1 ∷ 4 ∷ [];
@@ -198,6 +202,7 @@ cutTwice = pieces
 abbrev pub fromEitherSide : Case
 fromEitherSide = pieces
     (record {
+      closed = false;
       degree = 2;
       knots = floats (0x3fc9_9999_9999_999a ∷ 0x3fe9_9999_9999_999a ∷ 0x3ff0_0000_0000_0000 ∷ []);
       mults = 3 ∷ 1 ∷ 3 ∷ [];
@@ -218,6 +223,7 @@ fromEitherSide = pieces
 -- degree 2 with free ends, knots 0 to 5 once each, poles (0,0,0), (1,2,0), (3,1,0): its bounds are 2 and 3
 abbrev pub freeEnds : Line
 freeEnds = record {
+  closed = false;
   degree = 2;
   knots = zero64 ∷ one64 ∷ two64 ∷ three64 ∷ floats (0x4010_0000_0000_0000 ∷ 0x4014_0000_0000_0000 ∷ []);
   mults = 1 ∷ 1 ∷ 1 ∷ 1 ∷ 1 ∷ 1 ∷ [];
@@ -268,6 +274,7 @@ upTo l hi k = record { line1 = l; lo1 = zero64; hi1 = hi; line2 = k; lo2 = zero6
 -- degree 1: (0,0,−1), (1,4,3), (8,4,3), (10,−2,−3), knots 0, 1, 2, 3
 abbrev pub lineOfThree : Line
 lineOfThree = record {
+  closed = false;
   degree = 1;
   knots = zero64 ∷ one64 ∷ two64 ∷ three64 ∷ [];
   mults = 2 ∷ 1 ∷ 1 ∷ 2 ∷ [];
@@ -293,6 +300,7 @@ ThreePieces =
 -- degree 1: (0,0,0), (2,2,0), (4,0,0), knots 0, 1, 2
 abbrev pub upAndDown : Line
 upAndDown = record {
+  closed = false;
   degree = 1;
   knots = zero64 ∷ one64 ∷ two64 ∷ [];
   mults = 2 ∷ 1 ∷ 2 ∷ [];

@@ -1,5 +1,5 @@
--- The breaks of a range: each lies in it, and no knot lies strictly between two neighbours. The knots around a parameter are those between which it lies. Assumes nothing.
-use mathlib.Core.Path.{_≡_, refl, _∙_}
+-- The breaks of a range: each lies in it, and, where they pass 18, no knot lies strictly between two neighbours. The knots around a parameter are those between which it lies. Assumes nothing.
+use mathlib.Core.Path.{_≡_, refl, _∙_, subst}
 use mathlib.Core.Logic.{_⊎_, inl, inr, dite}
 use mathlib.Core.Bool.{Bool, true, false, cond}
 use mathlib.Core.List.{List, [], _∷_}
@@ -10,17 +10,19 @@ use native.Mathlib.Omega.{arith}
 use lib.Dec.{T, ltb}
 use lib.ListN.{length, getD}
 use lib.Ieee.{Float, nan, le, lt}
-use Rattle.lists.specs.Members.{All}
+use Rattle.lists.specs.Members.{Any}
 use Rattle.lists.specs.Tests.{every, eachTwo}
 use Rattle.floats.specs.Sizes.{Number}
-use Rattle.floats.proofs.Order.{le-self, le-trans-float}
+use Rattle.floats.specs.Floats.{middle}
+use Rattle.floats.proofs.Order.{left-number, right-number, le-self, le-trans-float}
+use Rattle.floats.proofs.Bounds.{lt-not-le}
 use Rattle.floats.proofs.Sums.{not-le-lt}
-use Rattle.knots.specs.Knots.{repeated, flatKnots, inside, between}
+use Rattle.knots.specs.Knots.{repeated, flatKnots, inside, between, breaksIn}
+use Rattle.questions.specs.Questions.{parted}
 use Rattle.spans.specs.Spans.{reachOf, passedOf, spanEnd, spanAround}
 use Rattle.facts.specs.Spans.{AllTwo}
 use Rattle.facts.proofs.Reflect.{as-true, is-true, both}
 use Rattle.facts.proofs.Cover.{lt-le}
-use Rattle.facts.proofs.Climbs.{Above, above-knots, above-at, rising-tail}
 use Rattle.facts.proofs.Spans.{never, reach-in, reach-low, reach-high}
 
 -- ---- each two neighbours
@@ -45,17 +47,37 @@ passed-two t (x ∷ y ∷ l) e = let h = both (t x y) (eachTwo t (y ∷ l)) e in
 abbrev pub Outside : Float → Float → Float → Type 0
 Outside j t0 t1 = T (le j t0) ⊎ T (le t1 j)
 
--- t is no break behind one of these knots that is to come
-abbrev Behind : Float → Float → List Float → Type 0
-Behind lo t ks = All (λ (k : Float). T (lt lo k) → T (le t k)) ks
+pub less-than-most : (x y z : Float) → T (lt x y) → T (le y z) → T (lt x z)
+less-than-most x y z h g = not-le-lt x z (left-number x y (lt-le x y h)) (right-number y z g) (λ t. lt-not-le x y h (le-trans-float y z x g t))
 
-behind-knot : (lo k : Float) (ks : List Float) → Above k ks → Behind lo k ks
-behind-knot lo k [] a = tt
-behind-knot lo k (x ∷ ks) a = (λ h. a .0, behind-knot lo k ks (a .1))
+-- breaks that pass 18 climb
+abbrev Climbing : List Float → Type 0
+Climbing l = AllTwo (λ x y. T (lt x y)) l
 
-pub behind-start : (lo : Float) (ks : List Float) → Behind lo lo ks
-behind-start lo [] = tt
-behind-start lo (x ∷ ks) = (lt-le lo x, behind-start lo ks)
+apart-climb : (l : List Float) → eachTwo parted l ≡ true → Climbing l
+unfolding parted
+apart-climb l e = both-two (λ x y p q. less x y p) l (passed-two parted l e) (passed-two parted l e)
+  where
+    less : (x y : Float) → T (parted x y) → T (lt x y)
+    less x y p = let h = both (lt x (middle x y)) (lt (middle x y) y) (as-true _ p) in less-than-most x (middle x y) y (h .0) (lt-le (middle x y) y (is-true _ (h .1)))
+
+-- what is at most the first of a climbing list, and what is one of them, lies strictly between no two neighbours
+first-outside : (j x : Float) (l : List Float) → T (le j x) → Climbing (x ∷ l) → AllTwo (Outside j) (x ∷ l)
+first-outside j x [] h c = tt
+first-outside j x (y ∷ l) h c = (inl h, first-outside j y l (le-trans-float j x y h (lt-le x y (c .0))) (c .1))
+
+first-least : (j x : Float) (l : List Float) → Number j → Climbing (x ∷ l) → Any (λ (y : Float). j ≡ y) (x ∷ l) → T (le x j)
+first-least j x [] n c m = elim m [ inl e ↦ subst (λ (y : Float). T (le y j)) e (le-self j n) | inr k ↦ absurd k ]
+first-least j x (y ∷ l) n c m =
+    elim m [ inl e ↦ subst (λ (z : Float). T (le z j)) e (le-self j n) | inr k ↦ le-trans-float x y j (lt-le x y (c .0)) (first-least j y l n (c .1) k) ]
+
+one-outside : (j x : Float) (l : List Float) → Number j → Climbing (x ∷ l) → Any (λ (y : Float). j ≡ y) (x ∷ l) → AllTwo (Outside j) (x ∷ l)
+one-outside j x [] n c m = tt
+one-outside j x (y ∷ l) n c m =
+    elim m [
+      | inl e ↦ first-outside j x (y ∷ l) (subst (λ (z : Float). T (le j z)) e (le-self j n)) c
+      | inr k ↦ (inr (first-least j y l n (c .1) k), one-outside j y l n (c .1) k)
+    ]
 
 module _ (lo hi : Float) (nl : Number lo) (nh : Number hi) where
   in-both : (k : Float) → inside lo hi k ≡ true → T (lt lo k) × T (lt k hi)
@@ -75,49 +97,6 @@ module _ (lo hi : Float) (nl : Number lo) (nh : Number hi) where
           let z : inside lo hi k ≡ true = rw (x, y) refl in
           absurd (never _ e (is-true _ z))
 
-  -- a knot that the break t has passed, or that is beyond hi
-  past : (j t : Float) (ks : List Float) → eachTwo lt ks ≡ true → Behind lo t ks → Outside j t hi → AllTwo (Outside j) (t ∷ between lo hi ks (hi ∷ []))
-  unfolding between
-  past j t [] r a c = (c, tt)
-  past j t (k ∷ ks) r a c =
-      go (inside lo hi k) (in-both k) (past j k ks (rising-tail k ks r) (behind-knot lo k ks (above-knots k ks r))) (past j t ks (rising-tail k ks r) (a .1) c)
-    where
-      go : (b : Bool) → (b ≡ true → T (lt lo k) × T (lt k hi)) → (Outside j k hi → AllTwo (Outside j) (k ∷ between lo hi ks (hi ∷ [])))
-          → AllTwo (Outside j) (t ∷ between lo hi ks (hi ∷ []))
-          → AllTwo (Outside j) (t ∷ cond b (k ∷ between lo hi ks (hi ∷ [])) (between lo hi ks (hi ∷ [])))
-      go true h on skip = (
-        elim c [ inl x ↦ inl x | inr y ↦ inr (le-trans-float k hi j (lt-le k hi (h refl .1)) y) ],
-        on (elim c [ inl x ↦ inl (le-trans-float j t k x (a .0 (h refl .0))) | inr y ↦ inr y ]),
-      )
-      go false h on skip = skip
-
-  -- a knot that is to come
-  pub none-between : (t : Float) (ks : List Float) → eachTwo lt ks ≡ true → Behind lo t ks → T (le lo t) → ((i : ℕ) → i < length ks → Number (getD ks i nan))
-      → (i : ℕ) → i < length ks → AllTwo (Outside (getD ks i nan)) (t ∷ between lo hi ks (hi ∷ []))
-  unfolding between
-  none-between t [] r a g n i h = absurd (omega arith)
-  none-between t (k ∷ ks) r a g n zero h =
-      go (inside lo hi k) (in-both k) (out-either k (n 0 (omega arith))) (past k k ks (rising-tail k ks r) (behind-knot lo k ks (above-knots k ks r)))
-      (past k t ks (rising-tail k ks r) (a .1))
-    where
-      go : (b : Bool) → (b ≡ true → T (lt lo k) × T (lt k hi)) → (b ≡ false → T (le k lo) ⊎ T (le hi k))
-          → (Outside k k hi → AllTwo (Outside k) (k ∷ between lo hi ks (hi ∷ [])))
-          → (Outside k t hi → AllTwo (Outside k) (t ∷ between lo hi ks (hi ∷ [])))
-          → AllTwo (Outside k) (t ∷ cond b (k ∷ between lo hi ks (hi ∷ [])) (between lo hi ks (hi ∷ [])))
-      go true p q on skip = let self = le-self k (n 0 (omega arith)) in (inr self, on (inl self))
-      go false p q on skip = skip (elim (q refl) [ inl x ↦ inl (le-trans-float k lo t x g) | inr y ↦ inr y ])
-  none-between t (k ∷ ks) r a g n (suc i) h =
-      go (inside lo hi k) (in-both k)
-      (λ x. none-between k ks (rising-tail k ks r) (behind-knot lo k ks (above-knots k ks r)) x (λ j m. n (suc j) (omega arith)) i (omega arith))
-      (none-between t ks (rising-tail k ks r) (a .1) g (λ j m. n (suc j) (omega arith)) i (omega arith))
-    where
-      go : (b : Bool) → (b ≡ true → T (lt lo k) × T (lt k hi))
-          → (T (le lo k) → AllTwo (Outside (getD ks i nan)) (k ∷ between lo hi ks (hi ∷ [])))
-          → AllTwo (Outside (getD ks i nan)) (t ∷ between lo hi ks (hi ∷ []))
-          → AllTwo (Outside (getD ks i nan)) (t ∷ cond b (k ∷ between lo hi ks (hi ∷ [])) (between lo hi ks (hi ∷ [])))
-      go true p on skip = (inr (above-at k ks i (above-knots k ks r) (omega arith)), on (lt-le lo k (p refl .0)))
-      go false p on skip = skip
-
   -- the breaks lie in the range
   pub in-range : (t : Float) (ks : List Float) → T (le lo t) → AllTwo (λ t0 t1. T (le lo t0) × T (le t1 hi)) (t ∷ between lo hi ks (hi ∷ []))
   unfolding between
@@ -129,6 +108,36 @@ module _ (lo hi : Float) (nl : Number lo) (nh : Number hi) where
           → AllTwo (λ t0 t1. T (le lo t0) × T (le t1 hi)) (t ∷ cond b (k ∷ between lo hi ks (hi ∷ [])) (between lo hi ks (hi ∷ [])))
       go true p on skip = ((g, lt-le k hi (p refl .1)), on (lt-le lo k (p refl .0)))
       go false p on skip = skip
+
+  -- a knot strictly between lo and hi is a break
+  is-break : (ks : List Float) (i : ℕ) → i < length ks → inside lo hi (getD ks i nan) ≡ true → Any (λ (y : Float). getD ks i nan ≡ y) (between lo hi ks (hi ∷ []))
+  unfolding between
+  is-break [] i h e = absurd (omega arith)
+  is-break (k ∷ ks) zero h e = rw e (inl refl)
+  is-break (k ∷ ks) (suc i) h e = go (inside lo hi k) (is-break ks i (omega arith) e)
+    where
+      go : (b : Bool) → Any (λ (y : Float). getD ks i nan ≡ y) (between lo hi ks (hi ∷ []))
+          → Any (λ (y : Float). getD ks i nan ≡ y) (cond b (k ∷ between lo hi ks (hi ∷ [])) (between lo hi ks (hi ∷ [])))
+      go true a = inr a
+      go false a = a
+
+  -- No knot lies strictly between two neighbouring breaks, if they pass 18, whatever the order of the knots.
+  pub none-between : (ks : List Float) → eachTwo parted (breaksIn lo hi ks) ≡ true → (i : ℕ) → i < length ks → Number (getD ks i nan)
+      → AllTwo (Outside (getD ks i nan)) (breaksIn lo hi ks)
+  none-between ks e i h n = go (inside lo hi (getD ks i nan)) (is-break ks i h) (out-either (getD ks i nan) n)
+    where
+      c : Climbing (breaksIn lo hi ks)
+      c = apart-climb (breaksIn lo hi ks) e
+
+      go : (b : Bool) → (b ≡ true → Any (λ (y : Float). getD ks i nan ≡ y) (between lo hi ks (hi ∷ []))) → (b ≡ false → T (le (getD ks i nan) lo) ⊎ T (le hi (getD ks i nan)))
+          → AllTwo (Outside (getD ks i nan)) (breaksIn lo hi ks)
+      go true f g = one-outside (getD ks i nan) lo (between lo hi ks (hi ∷ [])) n c (inr (f refl))
+      go false f g =
+          elim (g refl) [
+            | inl x ↦ first-outside (getD ks i nan) lo (between lo hi ks (hi ∷ [])) x c
+            | inr y ↦ both-two (λ t0 t1 p q. inr (le-trans-float t1 hi (getD ks i nan) (p .1) y)) (breaksIn lo hi ks)
+                (in-range lo ks (le-self lo nl)) (in-range lo ks (le-self lo nl))
+          ]
 
 -- ---- the knots around a parameter
 pass-reach : (n s : ℕ) (t : Float) (l : List Float) → passedOf n (suc s) t l ≡ suc (reachOf n s t l)
@@ -145,7 +154,7 @@ abbrev pub knotAt : List Float → Float → ℕ
 knotAt knots t = reachOf (length knots - 2) 0 t knots
 
 module _ (knots : List Float) (t : Float) (two : 2 ≤ length knots) (low : T (le (getD knots 0 nan) t)) (high : le (getD knots (length knots - 1) nan) t ≡ false) where
-  end-is : spanEnd knots t ≡ suc (knotAt knots t)
+  pub end-is : spanEnd knots t ≡ suc (knotAt knots t)
   unfolding spanEnd passedOf
   end-is =
       let q : length knots - 1 ≡ suc (length knots - 2) = omega arith in
@@ -172,7 +181,7 @@ module _ (knots : List Float) (t : Float) (two : 2 ≤ length knots) (low : T (l
       (λ k. let q : suc (knotAt knots t) ≡ length knots - 1 = omega (arith, b .1) in rw q high)
 
 -- ---- where a knot and the next stand among the flat knots
-behind-repeated : (m : ℕ) (x : Float) (l : List Float) (k : ℕ) → getD (repeated m x l) (m + k) nan ≡ getD l k nan
+pub behind-repeated : (m : ℕ) (x : Float) (l : List Float) (k : ℕ) → getD (repeated m x l) (m + k) nan ≡ getD l k nan
 unfolding repeated
 behind-repeated zero x l k = let q : 0 + k ≡ k = omega arith in rw q refl
 behind-repeated (suc m) x l k = let q : suc m + k ≡ suc (m + k) = omega arith in rw q (behind-repeated m x l k)
@@ -189,11 +198,11 @@ pub record Meeting (ks : List Float) (ms : List ℕ) (i : ℕ) : Type 0 where
   pub next : getD (flatKnots ks ms) (place + 1) nan ≡ getD ks (suc i) nan
 
 -- a multiplicity of 1 or more
-some : (m : ℕ) (ms : List ℕ) → every (λ n. ltb 0 n) (m ∷ ms) ≡ true → (0 < m) × (every (λ n. ltb 0 n) ms ≡ true)
+pub some : (m : ℕ) (ms : List ℕ) → every (λ n. ltb 0 n) (m ∷ ms) ≡ true → (0 < m) × (every (λ n. ltb 0 n) ms ≡ true)
 unfolding every
 some m ms e = let h = both (ltb 0 m) (every (λ n. ltb 0 n) ms) e in (ltb-true 0 m (as-true _ (h .0)), h .1)
 
-first-flat : (k : Float) (ks : List Float) (m : ℕ) (ms : List ℕ) → 0 < m → getD (flatKnots (k ∷ ks) (m ∷ ms)) 0 nan ≡ k
+pub first-flat : (k : Float) (ks : List Float) (m : ℕ) (ms : List ℕ) → 0 < m → getD (flatKnots (k ∷ ks) (m ∷ ms)) 0 nan ≡ k
 unfolding flatKnots repeated
 first-flat k ks zero ms h = absurd (omega arith)
 first-flat k ks (suc m) ms h = refl
@@ -215,7 +224,7 @@ meet-later k ks m ms i r =
       next = rw q (behind-repeated m k (flatKnots ks ms) (r .place + 1) ∙ r .next);
     }
 
-start-flat : (ks : List Float) (ms : List ℕ) → length ms ≡ length ks → every (λ n. ltb 0 n) ms ≡ true → 0 < length ks → getD (flatKnots ks ms) 0 nan ≡ getD ks 0 nan
+pub start-flat : (ks : List Float) (ms : List ℕ) → length ms ≡ length ks → every (λ n. ltb 0 n) ms ≡ true → 0 < length ks → getD (flatKnots ks ms) 0 nan ≡ getD ks 0 nan
 start-flat [] ms l e h = absurd (omega arith)
 start-flat (k ∷ ks) [] l e h = absurd (omega arith)
 start-flat (k ∷ ks) (m ∷ ms) l e h = first-flat k ks m ms (some m ms e .0)

@@ -1,19 +1,23 @@
 -- The theorems of this crate hold. Assumes nothing.
-use mathlib.Core.Path.{refl}
-use mathlib.Core.List.{List, [], _∷_}
-use lib.Ieee.{Float}
-use Rattle.lists.specs.Members.{All}
-use Rattle.floats.specs.Stations.{piecesFrom}
-use Rattle.lines.specs.Lines.{Line}
-use Rattle.knots.specs.Knots.{between, flatOf}
-use Rattle.pieces.specs.Pieces.{netOf, spanBezier}
-use Rattle.curves.specs.Curves.{polesOf, cutsFrom}
+use mathlib.Core.Path.{refl, sym}
 use Rattle.facts.specs.Spans.{AllTwo, InOneSpan, OfOneSpan}
-use Rattle.facts.specs.Facts.{LineTable, QuestionTable, PiecesCover, PiecesWritten, SpanHolds, BreaksInSpans, PiecesInSpans}
+use Rattle.curves.specs.Curves.{netPoles, cutsFrom}
+use Rattle.pieces.specs.Pieces.{netOf, spanBezier}
+use Rattle.floats.specs.Stations.{piecesFrom}
+use Rattle.lists.specs.Members.{All}
+use mathlib.Core.Bool.{Bool, true, false, true≢false}
+use mathlib.Core.List.{List, [], _∷_}
+use Prim.Native.Nat.{ℕ}
+use lib.Ieee.{Float}
+use Rattle.floats.specs.Floats.{middle}
+use Rattle.lines.specs.Lines.{lineOf, Line}
+use Rattle.knots.specs.Knots.{boundsIn, between, flatOf, knotsOf}
+use Rattle.facts.specs.Facts.{LineTable, QuestionTable, PiecesCover, PiecesWritten, HoldsAt, SpanHolds, InSpansOf, BreaksInSpans, KeptAt, PlaceKept, PiecesInSpans}
 use Rattle.facts.proofs.Admission as lines
 use Rattle.facts.proofs.Questions as questions
 use Rattle.facts.proofs.Cover as cover
 use Rattle.facts.proofs.Stretches as stretches
+use Rattle.facts.proofs.Turns as turns
 
 pub line-table : LineTable
 line-table l = (λ n h. (lines.refused l n h, lines.refuses l n), (lines.admitted l, lines.admits l))
@@ -27,19 +31,46 @@ pieces-cover = cover.pieces-cover
 pub pieces-written : PiecesWritten
 pieces-written = cover.pieces-written
 
+-- ---- of a line by its parts, whose first says its kind
+span-of : (closed : Bool) (degree : ℕ) (knots : List Float) (mults : List ℕ) (coords weights : List Float) (u : Float) → HoldsAt (lineOf closed degree knots mults coords weights) u
+unfolding boundsIn
+span-of true degree knots mults coords weights u ok low high =
+    let n = turns.span-numbered degree knots mults coords weights ok u low high in (
+      turns.span-holds degree knots mults coords weights ok u low high,
+      λ s w o. let i = w refl in turns.span-only-turn degree knots mults coords weights ok u low high s (i .0) (i .1) o,
+      n .0,
+      n .1,
+    )
+span-of false degree knots mults coords weights u ok low high =
+    let n = stretches.span-numbered degree knots mults coords weights ok u low high in (
+      stretches.span-holds degree knots mults coords weights ok u low high,
+      λ s w o. stretches.span-only degree knots mults coords weights ok u low high s o,
+      n .0,
+      n .1,
+    )
+
 pub span-holds : SpanHolds
-span-holds l u ok low high =
-    let n = stretches.span-numbered l ok u low high in
-    (stretches.span-holds l ok u low high, stretches.span-only l ok u low high, n .0, n .1)
+span-holds l u = span-of (l .closed) (l .degree) (l .knots) (l .mults) (l .coords) (l .weights) u
+
+breaks-of : (closed : Bool) (degree : ℕ) (knots : List Float) (mults : List ℕ) (coords weights : List Float) (lo hi : Float) → InSpansOf (lineOf closed degree knots mults coords weights) lo hi
+breaks-of true degree knots mults coords weights lo hi d ok fits e = turns.breaks-in-spans degree knots mults coords weights ok lo hi (d refl) fits e
+breaks-of false degree knots mults coords weights lo hi d ok fits e = stretches.breaks-in-spans degree knots mults coords weights ok lo hi fits e
 
 pub breaks-in-spans : BreaksInSpans
-breaks-in-spans l lo hi ok = stretches.breaks-in-spans l ok lo hi
+breaks-in-spans l lo hi = breaks-of (l .closed) (l .degree) (l .knots) (l .mults) (l .coords) (l .weights) lo hi
 
 of-breaks : (l : Line) (t0 : Float) (ts : List Float) → AllTwo (InOneSpan l) (t0 ∷ ts)
-    → All (OfOneSpan l) (piecesFrom t0 (cutsFrom (l .degree) (l .knots) (flatOf l) (polesOf l) t0 ts))
+    → All (OfOneSpan l) (piecesFrom t0 (cutsFrom (l .closed) (l .degree) (knotsOf l) (flatOf l) (netPoles l) t0 ts))
 unfolding cutsFrom netOf spanBezier
 of-breaks l t0 [] h = tt
 of-breaks l t0 (t1 ∷ ts) h = (record { range = h .0; net = refl }, of-breaks l t1 ts (h .1))
 
 pub pieces-in-spans : PiecesInSpans
-pieces-in-spans l lo hi ok fits e = of-breaks l lo (between lo hi (l .knots) (hi ∷ [])) (breaks-in-spans l lo hi ok fits e)
+pieces-in-spans l lo hi d ok fits e = of-breaks l lo (between lo hi (knotsOf l) (hi ∷ [])) (breaks-in-spans l lo hi d ok fits e)
+
+place-of : (closed : Bool) (degree : ℕ) (knots : List Float) (mults : List ℕ) (coords weights : List Float) (t0 t1 : Float) → KeptAt (lineOf closed degree knots mults coords weights) t0 t1
+place-of true degree knots mults coords weights t0 t1 ok c u is low high = turns.place-kept degree knots mults coords weights ok (middle t0 t1) u is low high
+place-of false degree knots mults coords weights t0 t1 ok c u is low high = absurd (true≢false (sym c))
+
+pub place-kept : PlaceKept
+place-kept l t0 t1 = place-of (l .closed) (l .degree) (l .knots) (l .mults) (l .coords) (l .weights) t0 t1

@@ -8,4 +8,6 @@ pub mod Climbs
 pub mod Spans
 pub mod Breaks
 pub mod Stretches
+pub mod Units
+pub mod Turns
 pub mod Facts

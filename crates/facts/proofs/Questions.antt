@@ -6,17 +6,18 @@ use mathlib.Core.List.{List, [], _∷_}
 use Prim.Native.Nat.{ℕ, _^_, _<_}
 use native.Mathlib.Omega.{arith}
 use lib.Dec.{T, ltb, lit<}
-use lib.Ieee.{Float, lt, le}
+use lib.Ieee.{Float, lt, le, binary64, sub}
 use Rattle.lists.specs.Tests.{eachTwo}
 use Rattle.floats.specs.Floats.{zero64, within, middle}
+use Rattle.points.specs.declared.Interval.{Interval}
 use Rattle.lines.specs.declared.Admission.the-variants.{Admitted}
 use Rattle.lines.specs.Admit.{two24, admitOf}
 use Rattle.knots.specs.Knots.{boundsOf, breaksOf}
 use Rattle.questions.specs.declared.Asked.{Asked}
 use Rattle.questions.specs.declared.Asked.the-variants.{Fine, RangeOutOfBounds, GapOutOfRange, TooManySplits, BreaksTooClose}
-use Rattle.questions.specs.Questions.{askedNumber, askedLine, rangeFits, parted, askWithin, askOf}
+use Rattle.questions.specs.Questions.{askedNumber, askedLine, turnFits, rangeFits, parted, askWithin, askOf}
 use Rattle.lines.specs.Lines.{Line, Question}
-use Rattle.facts.specs.Faults.{Fault15, Fault16, Fault18, QuestionFault, Earlier, askedPlace, FirstQuestionFault}
+use Rattle.facts.specs.Faults.{ByKind, Fault15, Fault16, Fault18, QuestionFault, Earlier, askedPlace, FirstQuestionFault}
 use Rattle.facts.proofs.Reflect.{Tests, of-T, of-lt, of-not, of-both, of-two, same}
 use Rattle.facts.proofs.Sizes.{of-gap, within-finite}
 use Rattle.facts.proofs.Cover.{range-fine}
@@ -40,14 +41,14 @@ six false false false false false false = refl
 
 rows : Question → List ((ℕ × ℕ) × Bool)
 rows q =
-    ((15, 1), not (rangeFits (boundsOf (q .line1)) (q .lo1) (q .hi1))) ∷ ((15, 2), not (rangeFits (boundsOf (q .line2)) (q .lo2) (q .hi2)))
+    ((15, 1), not (rangeFits (q .line1 .closed) (boundsOf (q .line1)) (q .lo1) (q .hi1))) ∷ ((15, 2), not (rangeFits (q .line2 .closed) (boundsOf (q .line2)) (q .lo2) (q .hi2)))
     ∷ ((16, 0), not (within zero64 two24 (q .gap))) ∷ ((17, 0), ltb 256 (q .splits))
     ∷ ((18, 1), not (eachTwo parted (breaksOf (q .line1) (q .lo1) (q .hi1)))) ∷ ((18, 2), not (eachTwo parted (breaksOf (q .line2) (q .lo2) (q .hi2)))) ∷ []
 
 number : (q : Question) → askedPlace q ≡ firstRow (0, 0) (rows q)
 unfolding rows askWithin
 number q =
-    six (not (rangeFits (boundsOf (q .line1)) (q .lo1) (q .hi1))) (not (rangeFits (boundsOf (q .line2)) (q .lo2) (q .hi2)))
+    six (not (rangeFits (q .line1 .closed) (boundsOf (q .line1)) (q .lo1) (q .hi1))) (not (rangeFits (q .line2 .closed) (boundsOf (q .line2)) (q .lo2) (q .hi2)))
     (not (within zero64 two24 (q .gap))) (ltb 256 (q .splits))
     (not (eachTwo parted (breaksOf (q .line1) (q .lo1) (q .hi1)))) (not (eachTwo parted (breaksOf (q .line2) (q .lo2) (q .hi2))))
 
@@ -56,31 +57,61 @@ decide : (b : Bool) → T b ⊎ (T b → ⊥)
 decide true = inl tt
 decide false = inr (λ x. x)
 
-test15 : (l : Line) (lo hi : Float) → admitOf l ≡ Admitted → Tests (Fault15 l lo hi) (not (rangeFits (boundsOf l) lo hi))
-unfolding rangeFits
-test15 l lo hi ok = same to from (of-not (rangeFits (boundsOf l) lo hi) inside)
-  where
-    inside : Tests (T (lt lo hi) × (T (le (boundsOf l .lo) lo) × T (le hi (boundsOf l .hi)))) (rangeFits (boundsOf l) lo hi)
-    inside =
-        of-both (lt lo hi) (cond (le (boundsOf l .lo) lo) (le hi (boundsOf l .hi)) false) (of-T (lt lo hi))
-        (of-both (le (boundsOf l .lo) lo) (le hi (boundsOf l .hi)) (of-T (le (boundsOf l .lo) lo)) (of-T (le hi (boundsOf l .hi))))
+-- what a range that fits has after lo < hi and its start: on a closed line a start before the last knot and no more than the period, on an open one its end
+abbrev Ends : Bool → Interval → Float → Float → Type 0
+Ends true b lo hi = T (lt lo (b .hi)) × T (le (sub binary64 hi lo) (sub binary64 (b .hi) (b .lo)))
+Ends false b lo hi = T (le hi (b .hi))
 
-    to : (T (lt lo hi) × (T (le (boundsOf l .lo) lo) × T (le hi (boundsOf l .hi))) → ⊥) → Fault15 l lo hi
+ends-test : (closed : Bool) (b : Interval) (lo hi : Float) → Tests (Ends closed b lo hi) (cond closed (turnFits b lo hi) (le hi (b .hi)))
+unfolding turnFits
+ends-test true b lo hi =
+    of-both (lt lo (b .hi)) (le (sub binary64 hi lo) (sub binary64 (b .hi) (b .lo))) (of-T (lt lo (b .hi))) (of-T (le (sub binary64 hi lo) (sub binary64 (b .hi) (b .lo))))
+ends-test false b lo hi = of-T (le hi (b .hi))
+
+-- what is left of 15 where they fail
+abbrev NoEnds : Bool → Interval → Float → Float → Type 0
+NoEnds closed b lo hi =
+    ByKind closed ((T (lt lo (b .hi)) → ⊥) ⊎ (T (le (sub binary64 hi lo) (sub binary64 (b .hi) (b .lo))) → ⊥)) (T (le hi (b .hi)) → ⊥)
+
+ends-either : (closed : Bool) (b : Interval) (lo hi : Float) → Ends closed b lo hi ⊎ NoEnds closed b lo hi
+ends-either true b lo hi =
+    elim (decide (lt lo (b .hi))) [
+      | inl x ↦ elim (decide (le (sub binary64 hi lo) (sub binary64 (b .hi) (b .lo)))) [ inl y ↦ inl (x, y) | inr n ↦ inr (inr n) ]
+      | inr n ↦ inr (inl n)
+    ]
+ends-either false b lo hi = decide (le hi (b .hi))
+
+ends-not : (closed : Bool) (b : Interval) (lo hi : Float) → Ends closed b lo hi → NoEnds closed b lo hi → ⊥
+ends-not true b lo hi e (inl n) = n (e .0)
+ends-not true b lo hi e (inr n) = n (e .1)
+ends-not false b lo hi e n = n e
+
+test15 : (l : Line) (lo hi : Float) → admitOf l ≡ Admitted → Tests (Fault15 l lo hi) (not (rangeFits (l .closed) (boundsOf l) lo hi))
+unfolding rangeFits
+test15 l lo hi ok = same to from (of-not (rangeFits (l .closed) (boundsOf l) lo hi) inside)
+  where
+    inside : Tests (T (lt lo hi) × (T (le (boundsOf l .lo) lo) × Ends (l .closed) (boundsOf l) lo hi)) (rangeFits (l .closed) (boundsOf l) lo hi)
+    inside =
+        of-both (lt lo hi) (cond (le (boundsOf l .lo) lo) (cond (l .closed) (turnFits (boundsOf l) lo hi) (le hi (boundsOf l .hi))) false) (of-T (lt lo hi))
+        (of-both (le (boundsOf l .lo) lo) (cond (l .closed) (turnFits (boundsOf l) lo hi) (le hi (boundsOf l .hi))) (of-T (le (boundsOf l .lo) lo))
+        (ends-test (l .closed) (boundsOf l) lo hi))
+
+    to : (T (lt lo hi) × (T (le (boundsOf l .lo) lo) × Ends (l .closed) (boundsOf l) lo hi) → ⊥) → Fault15 l lo hi
     to h =
         elim (decide (lt lo hi)) [
           | inl x ↦ elim (decide (le (boundsOf l .lo) lo)) [
-            | inl y ↦ elim (decide (le hi (boundsOf l .hi))) [ inl z ↦ absurd (h (x, (y, z))) | inr n ↦ inr (inr (inr (inr n))) ]
+            | inl y ↦ elim (ends-either (l .closed) (boundsOf l) lo hi) [ inl z ↦ absurd (h (x, (y, z))) | inr n ↦ inr (inr (inr (inr n))) ]
             | inr n ↦ inr (inr (inr (inl n)))
           ]
           | inr n ↦ inr (inr (inl n))
         ]
 
-    from : Fault15 l lo hi → T (lt lo hi) × (T (le (boundsOf l .lo) lo) × T (le hi (boundsOf l .hi))) → ⊥
+    from : Fault15 l lo hi → T (lt lo hi) × (T (le (boundsOf l .lo) lo) × Ends (l .closed) (boundsOf l) lo hi) → ⊥
     from (inl n) t = n (within-finite (2 ^ 20) lo (range-fine l lo hi ok (inside .holds t) .0))
-    from (inr (inl n)) t = n (within-finite (2 ^ 20) hi (range-fine l lo hi ok (inside .holds t) .1))
+    from (inr (inl n)) t = n (within-finite (2 ^ 22) hi (range-fine l lo hi ok (inside .holds t) .1))
     from (inr (inr (inl n))) t = n (t .0)
     from (inr (inr (inr (inl n)))) t = n (t .1 .0)
-    from (inr (inr (inr (inr n)))) t = n (t .1 .1)
+    from (inr (inr (inr (inr n)))) t = ends-not (l .closed) (boundsOf l) lo hi (t .1 .1) n
 
 test16 : (gap : Float) → Tests (Fault16 gap) (not (within zero64 two24 gap))
 test16 gap = of-not (within zero64 two24 gap) (of-gap gap)

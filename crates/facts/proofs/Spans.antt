@@ -1,4 +1,4 @@
--- The span that the search finds is the one that holds u: its first knot is at most u, and the next is not. In a climbing list there is only one such. Assumes nothing.
+-- The span that the search finds is the one that holds u: its first knot is at most u, and the next is not. Where the list climbs there is only one such. Assumes nothing.
 use mathlib.Core.Path.{_≡_, refl, _∙_}
 use mathlib.Core.Logic.{dite}
 use mathlib.Core.Bool.{Bool, true, false, cond}
@@ -83,13 +83,13 @@ module _ (p : ℕ) (flat : List Float) (u : Float) (room : 2 * p + 2 ≤ length 
   pub span-in : (p ≤ spanOf p flat u) × (spanOf p flat u + p + 2 ≤ length flat)
   span-in = let b = reach-in (length flat - (2 * p + 2)) p u flat in rw stays (b .0, omega (arith, b .1))
 
-  -- there is no other in a climbing list
-  pub only-span : ((i j : ℕ) → i ≤ j → j < length flat → T (le (getD flat i nan) (getD flat j nan))) → (s : ℕ) → s + 1 < length flat
-      → T (le (getD flat s nan) u) → le (getD flat (s + 1) nan) u ≡ false → spanOf p flat u + 1 < length flat → s ≡ spanOf p flat u
-  only-span climbs s hs a b hr =
+  -- where the list climbs from number a to number b, there is no other
+  pub only-span : (a b : ℕ) → ((i j : ℕ) → a ≤ i → i ≤ j → j ≤ b → T (le (getD flat i nan) (getD flat j nan))) → (s : ℕ) → a ≤ s → s < b
+      → T (le (getD flat s nan) u) → le (getD flat (s + 1) nan) u ≡ false → a ≤ spanOf p flat u → spanOf p flat u < b → s ≡ spanOf p flat u
+  only-span a b climbs s sa sb h g ra rb =
       let o = span-opens in
       dite (decLt s (spanOf p flat u))
-      (λ k. absurd (never _ b (le-trans-float _ _ u (climbs (s + 1) (spanOf p flat u) (omega arith) (omega arith)) (o .0))))
+      (λ k. absurd (never _ g (le-trans-float _ _ u (climbs (s + 1) (spanOf p flat u) (omega arith) (omega arith) (omega arith)) (o .0))))
       (λ k. dite (decLt (spanOf p flat u) s)
-      (λ m. absurd (never _ (o .1) (le-trans-float _ _ u (climbs (spanOf p flat u + 1) s (omega arith) (omega arith)) a)))
+      (λ m. absurd (never _ (o .1) (le-trans-float _ _ u (climbs (spanOf p flat u + 1) s (omega arith) (omega arith) (omega arith)) h)))
       (λ m. omega arith))

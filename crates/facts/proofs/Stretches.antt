@@ -15,25 +15,23 @@ use Rattle.floats.specs.Sizes.{Number}
 use Rattle.floats.proofs.Order.{left-number, right-number, le-self, le-trans-float}
 use Rattle.floats.proofs.Bounds.{lt-not-le, none-below-nan}
 use Rattle.floats.proofs.Sums.{not-le-lt}
-use Rattle.lines.specs.Lines.{Line}
-use Rattle.lines.specs.Admit.{two20, admitOf}
+use Rattle.lines.specs.Lines.{Line, lineOf}
+use Rattle.lines.specs.Admit.{two20, beyondOf, admitOf}
 use Rattle.lines.specs.Counts.{Counts}
 use Rattle.lines.specs.declared.Admission.the-variants.{Admitted}
 use Rattle.lines.proofs.Admitted.{counts}
-use Rattle.knots.specs.Knots.{boundsIn, flatOf, boundsOf, breaksOf}
-use Rattle.spans.specs.Spans.{clampOf, spanAround}
+use Rattle.points.specs.declared.Interval.{Interval}
+use Rattle.knots.specs.Knots.{flatKnots, openBounds, lastOf, boundsIn, unrolledOf, lineFlat, breaksIn, flatOf, boundsOf, breaksOf}
+use Rattle.spans.specs.Spans.{clampOf, spanOf, spanEnd, spanAround, placeOf}
 use Rattle.pieces.specs.Pieces.{held}
 use Rattle.questions.specs.Questions.{rangeFits, parted}
 use Rattle.facts.specs.Faults.{poles}
-use Rattle.facts.specs.Spans.{AllTwo, InSpan, spanNumber, around, InOneSpan}
+use Rattle.facts.specs.Spans.{AllTwo, InSpan, spanNumber, netSpan, ownSpan, InOneSpan}
 use Rattle.facts.proofs.Reflect.{as-true, is-true, both}
 use Rattle.facts.proofs.Cover.{lt-le, length-flat, every-at, every-flat}
 use Rattle.facts.proofs.Climbs.{Sorted, above-knots, rising-tail, numbers-of, sorted-at, climbs}
 use Rattle.facts.proofs.Spans.{false-of, never, span-opens, span-in, only-span}
-use Rattle.facts.proofs.Breaks.{both-two, for-all, passed-two, Outside, behind-start, none-between, in-range, knotAt, around-is, around-in, around-low, around-high, meeting}
-
-less-than-most : (x y z : Float) → T (lt x y) → T (le y z) → T (lt x z)
-less-than-most x y z h g = not-le-lt x z (left-number x y (lt-le x y h)) (right-number y z g) (λ t. lt-not-le x y h (le-trans-float y z x g t))
+use Rattle.facts.proofs.Breaks.{both-two, for-all, passed-two, Outside, less-than-most, none-between, in-range, knotAt, end-is, around-is, around-in, around-low, around-high, meeting}
 
 sorted-knots : (ks : List Float) → eachTwo lt ks ≡ true → Sorted ks
 sorted-knots [] r = tt
@@ -44,179 +42,234 @@ unfolding every
 every-of t [] h = refl
 every-of t (x ∷ l) h = let e = as-true (t x) (h 0 (omega arith)) in rw e (every-of t l (λ i g. h (suc i) (omega arith)))
 
-module _ (l : Line) (ok : admitOf l ≡ Admitted) where
+-- ---- knots that passed 6 and 7
+module _ (knots : List Float) (six : every (within (neg two20) two20) knots ≡ true) (seven : eachTwo lt knots ≡ true) where
+  pub knot-number : (i : ℕ) → i < length knots → Number (getD knots i nan)
+  knot-number i h = numbers-of _ (every-at (within (neg two20) two20) knots i h six)
+
+  pub knots-climb : (i j : ℕ) → i ≤ j → j < length knots → T (le (getD knots i nan) (getD knots j nan))
+  knots-climb i j a b = sorted-at knots i j (sorted-knots knots seven) knot-number a b
+
+  pub flat-number : (mults : List ℕ) (i : ℕ) → i < length (flatKnots knots mults) → Number (getD (flatKnots knots mults) i nan)
+  flat-number mults i h = numbers-of _ (every-at (within (neg two20) two20) (flatKnots knots mults) i h (every-flat (within (neg two20) two20) knots mults six))
+
+-- ---- the span of a parameter u among flat knots, u from number p on and below number length − 1 − p
+module _ (p : ℕ) (flat : List Float) (u : Float) (room : 2 * p + 2 ≤ length flat) (low : T (le (getD flat p nan) u)) (high : T (lt u (getD flat (length flat - 1 - p) nan))) where
+  pub below-end : le (getD flat (length flat - 1 - p) nan) u ≡ false
+  below-end = false-of _ (lt-not-le u _ high)
+
+  pub numbered : (p ≤ spanOf p flat u) × (spanOf p flat u + p + 2 ≤ length flat)
+  numbered = span-in p flat u room low below-end
+
+  pub holds : Number (getD flat (spanOf p flat u + 1) nan) → T (le (getD flat (spanOf p flat u) nan) u) × T (lt u (getD flat (spanOf p flat u + 1) nan))
+  holds n = let o = span-opens p flat u room low below-end in (o .0, not-le-lt u _ (right-number _ u low) n (never _ (o .1)))
+
+  pub only : (a b : ℕ) → ((i j : ℕ) → a ≤ i → i ≤ j → j ≤ b → T (le (getD flat i nan) (getD flat j nan))) → a ≤ p → length flat - 1 - p ≤ b
+      → (s : ℕ) → a ≤ s → s < b → T (le (getD flat s nan) u) × T (lt u (getD flat (s + 1) nan)) → s ≡ spanOf p flat u
+  only a b climbs ap pb s sa sb o =
+      let n = numbered in
+      only-span p flat u room low below-end a b climbs s sa sb (o .0) (false-of _ (lt-not-le u _ (o .1))) (omega (arith, n .0)) (omega (arith, n .1))
+
+  pub held-is : held p flat u ≡ u
+  unfolding held clampOf
+  held-is =
+      let a : lt u (getD flat p nan) ≡ false = false-of _ (λ t. lt-not-le u _ t low) in
+      let b : lt (getD flat (length flat - 1 - p) nan) u ≡ false = false-of _ (λ t. never _ below-end (lt-le _ u t)) in
+      rw (a, b) refl
+
+-- ---- two breaks and their middle m, none of the knots strictly between the breaks: the knots around m are around both
+module _ (knots : List Float) (t0 t1 m : Float) (two : 2 ≤ length knots) (low : T (le (getD knots 0 nan) m)) (high : le (lastOf knots) m ≡ false)
+    (left : T (lt t0 m)) (right : T (lt m t1)) (none : (i : ℕ) → i < length knots → Outside (getD knots i nan) t0 t1) where
+  -- the number of the last knot up to the middle
+  abbrev at : ℕ
+  at = knotAt knots m
+
+  pub at-in : suc at < length knots
+  at-in = around-in knots m two low high
+
+  pub at-low : T (le (getD knots at nan) m)
+  at-low = around-low knots m two low high
+
+  pub at-high : le (getD knots (suc at) nan) m ≡ false
+  at-high = around-high knots m two low high
+
+  pub at-is : spanEnd knots m ≡ suc at
+  at-is = end-is knots m two low high
+
+  pub knots-around : spanAround knots m ≡ record { lo = getD knots at nan; hi = getD knots (suc at) nan }
+  knots-around = around-is knots m two low high
+
+  starts-before : T (le (getD knots at nan) t0)
+  starts-before =
+      let h = at-in in
+      elim (none at (omega arith)) [ inl x ↦ x | inr y ↦ absurd (lt-not-le m t1 right (le-trans-float t1 _ m y at-low)) ]
+
+  ends-behind : T (le t1 (getD knots (suc at) nan))
+  ends-behind = elim (none (suc at) at-in) [ inl x ↦ absurd (never _ at-high (le-trans-float _ t0 m x (lt-le t0 m left))) | inr y ↦ y ]
+
+  pub around-from : T (le (spanAround knots m .lo) t0)
+  around-from = subst (λ (a : Interval). T (le (a .lo) t0)) (sym knots-around) starts-before
+
+  pub around-to : T (le t1 (spanAround knots m .hi))
+  around-to = subst (λ (a : Interval). T (le t1 (a .hi))) (sym knots-around) ends-behind
+
+-- what 18 says of two neighbouring breaks
+pub middle-between : (t0 t1 : Float) → T (parted t0 t1) → T (lt t0 (middle t0 t1)) × T (lt (middle t0 t1) t1)
+unfolding parted
+middle-between t0 t1 p = let h = both (lt t0 (middle t0 t1)) (lt (middle t0 t1) t1) (as-true _ p) in (h .0, is-true _ (h .1))
+
+-- each two neighbouring breaks with all that is known of them
+pub of-breaks : (lo hi : Float) (knots : List Float) → T (lt lo hi) → ((i : ℕ) → i < length knots → Number (getD knots i nan)) → eachTwo parted (breaksIn lo hi knots) ≡ true
+    → {R : Float → Float → Type 0}
+    → ((t0 t1 : Float) → T (le lo t0) → T (le t1 hi) → T (lt t0 (middle t0 t1)) → T (lt (middle t0 t1) t1) → ((i : ℕ) → i < length knots → Outside (getD knots i nan) t0 t1) → R t0 t1)
+    → AllTwo R (breaksIn lo hi knots)
+of-breaks lo hi knots less n e {R} f = both-two each b (in-range lo hi nl nh lo knots (le-self lo nl)) (both-two (λ t0 t1 p q. (p, q)) b (passed-two parted b e) outside)
+  where
+    nl : Number lo
+    nl = left-number lo hi (lt-le lo hi less)
+
+    nh : Number hi
+    nh = right-number lo hi (lt-le lo hi less)
+
+    b : List Float
+    b = breaksIn lo hi knots
+
+    outside : AllTwo (λ t0 t1. (i : ℕ) → i < length knots → Outside (getD knots i nan) t0 t1) b
+    outside = for-all (λ i. Outside (getD knots i nan)) (length knots) b (λ i h. none-between lo hi nl nh knots e i h (n i h))
+
+    each : (t0 t1 : Float) → T (le lo t0) × T (le t1 hi) → T (parted t0 t1) × ((i : ℕ) → i < length knots → Outside (getD knots i nan) t0 t1) → R t0 t1
+    each t0 t1 r q = let m = middle-between t0 t1 (q .0) in f t0 t1 (r .0) (r .1) (m .0) (m .1) (q .1)
+
+-- ---- an open line
+module _ (degree : ℕ) (knots : List Float) (mults : List ℕ) (coords weights : List Float) (ok : admitOf (lineOf false degree knots mults coords weights) ≡ Admitted) where
+  abbrev l : Line
+  l = lineOf false degree knots mults coords weights
+
   known : Counts l
   known = counts l ok
 
-  flat-total : length (flatOf l) ≡ total (l .mults)
-  flat-total = length-flat (l .knots) (l .mults) (known .as-many)
+  flat-total : length (flatOf l) ≡ total mults
+  unfolding lineFlat
+  flat-total = length-flat knots mults (known .as-many)
 
-  flat-length : length (flatOf l) ≡ poles l + l .degree + 1
-  flat-length = flat-total ∙ sym (known .count)
+  flat-length : length (flatOf l) ≡ poles l + degree + 1
+  unfolding beyondOf
+  flat-length = let e = flat-total in let c = known .count in omega arith
 
-  flat-number : (i : ℕ) → i < length (flatOf l) → Number (getD (flatOf l) i nan)
-  flat-number i h =
-      numbers-of _ (every-at (within (neg two20) two20) (flatOf l) i h (every-flat (within (neg two20) two20) (l .knots) (l .mults) (known .knots-fit)))
+  room : 2 * degree + 2 ≤ length (flatOf l)
+  room = let e = flat-length in omega (arith, known .enough)
 
-  knot-number : (i : ℕ) → i < length (l .knots) → Number (getD (l .knots) i nan)
-  knot-number i h = numbers-of _ (every-at (within (neg two20) two20) (l .knots) i h (known .knots-fit))
-
-  knots-climb : (i j : ℕ) → i ≤ j → j < length (l .knots) → T (le (getD (l .knots) i nan) (getD (l .knots) j nan))
-  knots-climb i j a b = sorted-at (l .knots) i j (sorted-knots (l .knots) (known .increasing)) knot-number a b
-
-  enough : l .degree + 1 ≤ poles l
-  enough = known .enough
+  numbers : (i : ℕ) → i < length knots → Number (getD knots i nan)
+  numbers = knot-number knots (known .knots-fit) (known .increasing)
 
   -- the bounds are flat knots
-  lower-is : boundsOf l .lo ≡ getD (flatOf l) (l .degree) nan
-  unfolding boundsIn
+  lower-is : boundsOf l .lo ≡ getD (flatOf l) degree nan
+  unfolding boundsIn openBounds lineFlat
   lower-is = refl
 
-  upper-is : boundsOf l .hi ≡ getD (flatOf l) (length (flatOf l) - 1 - l .degree) nan
-  unfolding boundsIn
-  upper-is = ap (λ n. getD (flatOf l) n nan) (let e = flat-total in let q : total (l .mults) - l .degree - 1 ≡ length (flatOf l) - 1 - l .degree = omega arith in q)
+  upper-is : boundsOf l .hi ≡ getD (flatOf l) (length (flatOf l) - 1 - degree) nan
+  unfolding boundsIn openBounds lineFlat
+  upper-is = ap (λ n. getD (flatOf l) n nan) (let e = flat-total in let q : total mults - degree - 1 ≡ length (flatOf l) - 1 - degree = omega arith in q)
 
-  -- ---- the span of a parameter
-  module _ (u : Float) (low : T (le (boundsOf l .lo) u)) (high : T (lt u (boundsOf l .hi))) where
-    room : 2 * l .degree + 2 ≤ length (flatOf l)
-    room = let e = flat-length in let g = enough in omega arith
+  -- the span of a parameter
+  module _ (u : Float) (from : T (le (boundsOf l .lo) u)) (to : T (lt u (boundsOf l .hi))) where
+    low : T (le (getD (flatOf l) degree nan) u)
+    low = subst (λ x. T (le x u)) lower-is from
 
-    below : T (le (getD (flatOf l) (l .degree) nan) u)
-    below = subst (λ x. T (le x u)) lower-is low
+    high : T (lt u (getD (flatOf l) (length (flatOf l) - 1 - degree) nan))
+    high = subst (λ x. T (lt u x)) upper-is to
 
-    above : le (getD (flatOf l) (length (flatOf l) - 1 - l .degree) nan) u ≡ false
-    above = false-of _ (λ t. lt-not-le u (boundsOf l .hi) high (subst (λ x. T (le x u)) (sym upper-is) t))
-
-    numbered : (l .degree ≤ spanNumber l u) × (spanNumber l u + l .degree + 2 ≤ length (flatOf l))
-    numbered = span-in (l .degree) (flatOf l) u room below above
+    pub span-numbered : (degree ≤ spanNumber l u) × (spanNumber l u < poles l)
+    span-numbered = let n = numbered degree (flatOf l) u room low high in let e = flat-length in (n .0, omega (arith, n .1))
 
     pub span-holds : InSpan l u (spanNumber l u)
+    unfolding lineFlat
     span-holds =
-        let o = span-opens (l .degree) (flatOf l) u room below above in
-        let n = numbered in
-        (o .0, not-le-lt u _ (right-number _ u low) (flat-number (spanNumber l u + 1) (omega (arith, n .1))) (never _ (o .1)))
+        let n = numbered degree (flatOf l) u room low high in
+        holds degree (flatOf l) u room low high (flat-number knots (known .knots-fit) (known .increasing) mults (spanNumber l u + 1) (omega (arith, n .1)))
 
     pub span-only : (s : ℕ) → InSpan l u s → s ≡ spanNumber l u
+    unfolding lineFlat
     span-only s o =
-        let n = numbered in
+        let r = room in
         dite (decLt (s + 1) (length (flatOf l)))
-        (λ h. only-span (l .degree) (flatOf l) u room below above (climbs (l .knots) (l .mults) (known .increasing) (known .knots-fit)) s h (o .0)
-        (false-of _ (lt-not-le u _ (o .1))) (omega (arith, n .1)))
+        (λ h. only degree (flatOf l) u room low high 0 (length (flatOf l) - 1)
+        (λ i j a b c. climbs knots mults (known .increasing) (known .knots-fit) i j b (omega arith)) (omega arith) (omega arith) s (omega arith) (omega arith) o)
         (λ h. absurd (none-below-nan u (subst (λ x. T (lt u x)) (List·getD-eq-default (flatOf l) nan (omega arith)) (o .1))))
 
-    pub span-numbered : (l .degree ≤ spanNumber l u) × (spanNumber l u < poles l)
-    span-numbered = let n = numbered in let e = flat-length in (n .0, omega (arith, n .1))
-
-    held-is : held (l .degree) (flatOf l) u ≡ u
-    unfolding held clampOf
-    held-is =
-        let a : lt u (getD (flatOf l) (l .degree) nan) ≡ false = false-of _ (λ t. lt-not-le u _ t below) in
-        let b : lt (getD (flatOf l) (length (flatOf l) - 1 - l .degree) nan) u ≡ false = false-of _ (λ t. never _ above (lt-le _ u t)) in
-        rw (a, b) refl
-
-    -- ---- the knots around it
-    two : 2 ≤ length (l .knots)
-    two = known .two-knots
-
-    first-low : T (le (getD (l .knots) 0 nan) u)
+    first-low : T (le (getD knots 0 nan) u)
+    unfolding lineFlat
     first-low =
-        let e = every-of (λ y. le (getD (l .knots) 0 nan) y) (l .knots) (λ i h. knots-climb 0 i (omega arith) h) in
-        let g = every-at (λ y. le (getD (l .knots) 0 nan) y) (flatOf l) (l .degree) (let q = room in omega arith) (every-flat _ (l .knots) (l .mults) e) in
-        le-trans-float _ _ u (is-true _ g) below
+        let e = every-of (λ y. le (getD knots 0 nan) y) knots (λ i h. knots-climb knots (known .knots-fit) (known .increasing) 0 i (omega arith) h) in
+        let g = every-at (λ y. le (getD knots 0 nan) y) (flatOf l) degree (let q = room in omega arith) (every-flat _ knots mults e) in
+        le-trans-float _ _ u (is-true _ g) low
 
-    last-high : le (getD (l .knots) (length (l .knots) - 1) nan) u ≡ false
+    last-high : le (lastOf knots) u ≡ false
+    unfolding lineFlat
     last-high =
-        let z = length (l .knots) - 1 in
-        let w = two in
-        let e = every-of (λ y. le y (getD (l .knots) z nan)) (l .knots) (λ i h. knots-climb i z (omega arith) (omega arith)) in
-        let g = every-at (λ y. le y (getD (l .knots) z nan)) (flatOf l) (length (flatOf l) - 1 - l .degree) (let q = room in omega arith) (every-flat _ (l .knots) (l .mults) e) in
-        false-of _ (λ t. never _ above (le-trans-float _ _ u (is-true _ g) t))
+        let w = known .two-knots in
+        let e = every-of (λ y. le y (lastOf knots)) knots (λ i h. knots-climb knots (known .knots-fit) (known .increasing) i (length knots - 1) (omega arith) (omega arith)) in
+        let g = every-at (λ y. le y (lastOf knots)) (flatOf l) (length (flatOf l) - 1 - degree) (let q = room in omega arith) (every-flat _ knots mults e) in
+        false-of _ (λ t. lt-not-le u _ high (le-trans-float _ _ u (is-true _ g) t))
 
-  -- ---- two breaks and their middle
-  module _ (t0 t1 m : Float) (low : T (le (boundsOf l .lo) t0)) (high : T (le t1 (boundsOf l .hi))) (left : T (lt t0 m)) (right : T (lt m t1))
-      (none : (i : ℕ) → i < length (l .knots) → Outside (getD (l .knots) i nan) t0 t1) where
+  -- ---- two breaks
+  module _ (t0 t1 : Float) (from : T (le (boundsOf l .lo) t0)) (to : T (le t1 (boundsOf l .hi))) (left : T (lt t0 (middle t0 t1))) (right : T (lt (middle t0 t1) t1))
+      (none : (i : ℕ) → i < length knots → Outside (getD knots i nan) t0 t1) where
+    abbrev m : Float
+    m = middle t0 t1
+
     m-low : T (le (boundsOf l .lo) m)
-    m-low = le-trans-float _ t0 m low (lt-le t0 m left)
+    m-low = le-trans-float _ t0 m from (lt-le t0 m left)
 
     m-high : T (lt m (boundsOf l .hi))
-    m-high = less-than-most m t1 _ right high
+    m-high = less-than-most m t1 _ right to
 
-    -- the number of the last knot up to the middle
-    abbrev at : ℕ
-    at = knotAt (l .knots) m
+    abbrev here : ℕ
+    here = knotAt knots m
 
-    at-in : suc at < length (l .knots)
-    at-in = around-in (l .knots) m (two m m-low m-high) (first-low m m-low m-high) (last-high m m-low m-high)
-
-    at-low : T (le (getD (l .knots) at nan) m)
-    at-low = around-low (l .knots) m (two m m-low m-high) (first-low m m-low m-high) (last-high m m-low m-high)
-
-    at-high : le (getD (l .knots) (suc at) nan) m ≡ false
-    at-high = around-high (l .knots) m (two m m-low m-high) (first-low m m-low m-high) (last-high m m-low m-high)
-
-    starts-before : T (le (getD (l .knots) at nan) t0)
-    starts-before =
-        let h = at-in in
-        elim (none at (omega arith)) [ inl x ↦ x | inr y ↦ absurd (lt-not-le m t1 right (le-trans-float t1 _ m y at-low)) ]
-
-    ends-behind : T (le t1 (getD (l .knots) (suc at) nan))
-    ends-behind = elim (none (suc at) at-in) [ inl x ↦ absurd (never _ at-high (le-trans-float _ t0 m x (lt-le t0 m left))) | inr y ↦ y ]
+    own-is : ownSpan l t0 t1 ≡ here
+    unfolding unrolledOf
+    own-is =
+        let e = at-is knots t0 t1 m (known .two-knots) (first-low m m-low m-high) (last-high m m-low m-high) left right none in
+        let q : suc here - 1 ≡ here = omega arith in
+        ap (λ (n : ℕ). n - 1) e ∙ q
 
     -- the span of the middle, by its place among the flat knots
-    found : (q : ℕ) → getD (flatOf l) q nan ≡ getD (l .knots) at nan → getD (flatOf l) (q + 1) nan ≡ getD (l .knots) (suc at) nan → q ≡ spanNumber l m
-    found q here next =
-        let h = at-in in
+    found : (q : ℕ) → getD (flatOf l) q nan ≡ getD knots here nan → getD (flatOf l) (q + 1) nan ≡ getD knots (suc here) nan → q ≡ spanNumber l m
+    unfolding lineFlat
+    found q e f =
+        let h = at-in knots t0 t1 m (known .two-knots) (first-low m m-low m-high) (last-high m m-low m-high) left right none in
+        let a = at-low knots t0 t1 m (known .two-knots) (first-low m m-low m-high) (last-high m m-low m-high) left right none in
+        let b = at-high knots t0 t1 m (known .two-knots) (first-low m m-low m-high) (last-high m m-low m-high) left right none in
         span-only m m-low m-high q (
-          subst (λ x. T (le x m)) (sym here) at-low,
-          subst (λ x. T (lt m x)) (sym next) (not-le-lt m _ (right-number _ m m-low) (knot-number (suc at) h) (never _ at-high)),
+          subst (λ x. T (le x m)) (sym e) a,
+          subst (λ x. T (lt m x)) (sym f) (not-le-lt m _ (right-number _ m m-low) (numbers (suc here) h) (never _ b)),
         )
 
-    net-span : spanNumber l (held (l .degree) (flatOf l) m) ≡ spanNumber l m
-    net-span = ap (spanNumber l) (held-is m m-low m-high)
-
-    span-ends : (getD (flatOf l) (spanNumber l (held (l .degree) (flatOf l) m)) nan ≡ getD (l .knots) at nan)
-        × (getD (flatOf l) (spanNumber l (held (l .degree) (flatOf l) m) + 1) nan ≡ getD (l .knots) (suc at) nan)
-    span-ends =
-        let g = meeting (l .knots) (l .mults) (known .as-many) (known .some-mults) at at-in in
-        let e = net-span ∙ sym (found (g .place) (g .here) (g .next)) in
-        (ap (λ n. getD (flatOf l) n nan) e ∙ g .here, ap (λ n. getD (flatOf l) (n + 1) nan) e ∙ g .next)
-
-    knots-around : (spanAround (l .knots) m .lo ≡ getD (l .knots) at nan) × (spanAround (l .knots) m .hi ≡ getD (l .knots) (suc at) nan)
-    knots-around =
-        let e = around-is (l .knots) m (two m m-low m-high) (first-low m m-low m-high) (last-high m m-low m-high) in
-        (ap (λ a. a .lo) e, ap (λ a. a .hi) e)
-
-  module _ (lo hi : Float) (fits : rangeFits (boundsOf l) lo hi ≡ true) where
-    range : T (lt lo hi) × T (le (boundsOf l .lo) lo) × T (le hi (boundsOf l .hi))
-    unfolding rangeFits
-    range =
-        let h = both (lt lo hi) _ fits in
-        let g = both (le (boundsOf l .lo) lo) _ (h .1) in
-        (h .0, g .0, is-true _ (g .1))
-
-    one-span : (t0 t1 : Float) → T (le lo t0) × T (le t1 hi) → T (parted t0 t1) × ((i : ℕ) → i < length (l .knots) → Outside (getD (l .knots) i nan) t0 t1) → InOneSpan l t0 t1
-    unfolding parted
-    one-span t0 t1 inside rest =
-        let r = range in
-        let p = both (lt t0 (middle t0 t1)) (lt (middle t0 t1) t1) (as-true _ (rest .0)) in
-        let low = le-trans-float (boundsOf l .lo) lo t0 (r .1) (inside .0) in
-        let high = le-trans-float t1 hi (boundsOf l .hi) (inside .1) (r .2) in
-        let right = is-true _ (p .1) in
-        let a = knots-around t0 t1 (middle t0 t1) low high (p .0) right (rest .1) in
-        let s = span-ends t0 t1 (middle t0 t1) low high (p .0) right (rest .1) in
+    one-span : InOneSpan l t0 t1
+    unfolding placeOf lineFlat unrolledOf
+    one-span =
+        let two = known .two-knots in
+        let low = first-low m m-low m-high in
+        let high = last-high m m-low m-high in
+        let g = meeting knots mults (known .as-many) (known .some-mults) here (at-in knots t0 t1 m two low high left right none) in
+        let e : netSpan l t0 t1 ≡ g .place =
+        ap (spanNumber l) (held-is degree (flatOf l) m room (subst (λ x. T (le x m)) lower-is m-low) (subst (λ x. T (lt m x)) upper-is m-high)) ∙ sym (found (g .place) (g .here) (g .next)) in
+        let o = own-is in
+        let a = knots-around knots t0 t1 m two low high left right none in
+        let q : suc here ≡ here + 1 = omega arith in
         record {
-          from = subst (λ x. T (le x t0)) (sym (a .0)) (starts-before t0 t1 (middle t0 t1) low high (p .0) right (rest .1));
-          to = subst (λ x. T (le t1 x)) (sym (a .1)) (ends-behind t0 t1 (middle t0 t1) low high (p .0) right (rest .1));
-          starts = s .0 ∙ sym (a .0);
-          ends = s .1 ∙ sym (a .1);
+          from = around-from knots t0 t1 m two low high left right none;
+          to = around-to knots t0 t1 m two low high left right none;
+          same = inl (rw (a, o) (refl, ap (λ n. getD knots n nan) q));
+          starts = rw (e, o) (g .here);
+          ends = rw (e, o) (g .next ∙ ap (λ n. getD knots n nan) q);
         }
 
-    pub breaks-in-spans : eachTwo parted (breaksOf l lo hi) ≡ true → AllTwo (InOneSpan l) (breaksOf l lo hi)
-    breaks-in-spans e =
-        let r = range in
-        let nl = left-number lo hi (lt-le lo hi (r .0)) in
-        let nh = right-number lo hi (lt-le lo hi (r .0)) in
-        let b = breaksOf l lo hi in
-        let apart = for-all (λ i. Outside (getD (l .knots) i nan)) (length (l .knots)) b
-        (none-between lo hi nl nh lo (l .knots) (known .increasing) (behind-start lo (l .knots)) (le-self lo nl) knot-number) in
-        both-two one-span b (in-range lo hi nl nh lo (l .knots) (le-self lo nl)) (both-two (λ x y p q. (p, q)) b (passed-two parted b e) apart)
+  pub breaks-in-spans : (lo hi : Float) → rangeFits false (boundsOf l) lo hi ≡ true → eachTwo parted (breaksOf l lo hi) ≡ true → AllTwo (InOneSpan l) (breaksOf l lo hi)
+  unfolding rangeFits unrolledOf
+  breaks-in-spans lo hi fits e =
+      let h = both (lt lo hi) _ fits in
+      let g = both (le (boundsOf l .lo) lo) _ (h .1) in
+      of-breaks lo hi knots (h .0) numbers e
+      (λ t0 t1 a b left right none. one-span t0 t1 (le-trans-float _ lo t0 (g .0) a) (le-trans-float t1 hi _ b (is-true _ (g .1))) left right none)

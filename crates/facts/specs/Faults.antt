@@ -1,12 +1,12 @@
--- Document 01's table in its own words, numbers 4 to 18: what a line or a question meets. Definitions only.
+-- Document 01's table in its own words, numbers 4 to 18, with document 02's 22 and what it says of closed lines: what a line or a question meets. Definitions only.
 use mathlib.Core.Path.{_≡_}
 use mathlib.Core.Logic.{_⊎_}
-use mathlib.Core.Bool.{true, false}
+use mathlib.Core.Bool.{Bool, true, false, cond}
 use mathlib.Core.List.{List, [], _∷_}
 use Prim.Native.Nat.{ℕ, _+_, _-_, _*_, _/_, _%_, _^_, _<_, _≤_}
-use lib.Dec.{T}
+use lib.Dec.{T, eqb}
 use lib.ListN.{length, getD}
-use lib.Ieee.{Float, nan, inf, fin, up, down, le, lt}
+use lib.Ieee.{Float, nan, inf, fin, up, down, le, lt, binary64, sub}
 use Rattle.lists.specs.Members.{Any}
 use Rattle.lists.specs.Tests.{total}
 use Rattle.floats.specs.Floats.{middle}
@@ -46,6 +46,15 @@ FromZero C (fin false m e) = m * up e ≤ C * down e
 abbrev pub poles : Line → ℕ
 poles l = length (l .coords) / 3
 
+-- the first of a closed line, the second of an open one
+abbrev pub ByKind : Bool → Type 0 → Type 0 → Type 0
+ByKind true ofClosed ofOpen = ofClosed
+ByKind false ofClosed ofOpen = ofOpen
+
+-- the last multiplicity
+abbrev pub lastMult : Line → ℕ
+lastMult l = getD (l .mults) (length (l .mults) - 1) 0
+
 -- 4: degree isn't 1 to 25
 abbrev pub Fault4 : Line → Type 0
 Fault4 l = (l .degree < 1) ⊎ (25 < l .degree)
@@ -62,17 +71,24 @@ Fault6 l = Any (λ k. Within (2 ^ 20) k → ⊥) (l .knots)
 abbrev pub Fault7 : Line → Type 0
 Fault7 l = AnyTwo (λ before k. T (lt before k) → ⊥) (l .knots)
 
--- 8: an end multiplicity is over degree + 1, or an inner one over degree
+-- 22: the end multiplicities of a closed line differ
+abbrev pub Fault22 : Line → Type 0
+Fault22 l = (l .closed ≡ true) × (getD (l .mults) 0 0 ≡ lastMult l → ⊥)
+
+-- 8: an end multiplicity is over degree + 1, or an inner one over degree; on a closed line one is over degree
 abbrev pub Fault8 : Line → Type 0
-Fault8 l = (l .degree + 1 < getD (l .mults) 0 0) ⊎ ((l .degree + 1 < getD (l .mults) (length (l .mults) - 1) 0) ⊎ Any (λ m. l .degree < m) (inner (l .mults)))
+Fault8 l =
+    ByKind (l .closed) (Any (λ m. l .degree < m) (l .mults))
+    ((l .degree + 1 < getD (l .mults) 0 0) ⊎ ((l .degree + 1 < lastMult l) ⊎ Any (λ m. l .degree < m) (inner (l .mults))))
 
 -- 9: a multiplicity is 0
 abbrev pub Fault9 : Line → Type 0
 Fault9 l = Any (λ m. m ≡ 0) (l .mults)
 
--- 10: coordinates are no multiple of 3, or poles ≠ sum of multiplicities − degree − 1
+-- 10: coordinates are no multiple of 3, or poles ≠ sum of multiplicities − degree − 1; on a closed line, ≠ sum − last multiplicity
 abbrev pub Fault10 : Line → Type 0
-Fault10 l = (length (l .coords) % 3 ≡ 0 → ⊥) ⊎ (poles l + l .degree + 1 ≡ total (l .mults) → ⊥)
+Fault10 l =
+    (length (l .coords) % 3 ≡ 0 → ⊥) ⊎ ByKind (l .closed) (poles l + lastMult l ≡ total (l .mults) → ⊥) (poles l + (l .degree + 1) ≡ total (l .mults) → ⊥)
 
 -- 11: poles are fewer than degree + 1 or over 128
 abbrev pub Fault11 : Line → Type 0
@@ -93,17 +109,24 @@ Fault14 l = Any (λ x. Within (2 ^ 24) x → ⊥) (l .coords)
 -- the line meets the table's row of number n
 abbrev pub LineFault : ℕ → Line → Type 0
 LineFault n l =
-    ((4 ≡ n) × Fault4 l) ⊎ (((5 ≡ n) × Fault5 l) ⊎ (((6 ≡ n) × Fault6 l) ⊎ (((7 ≡ n) × Fault7 l) ⊎ (((8 ≡ n) × Fault8 l) ⊎ (((9 ≡ n) × Fault9 l)
-    ⊎ (((10 ≡ n) × Fault10 l) ⊎ (((11 ≡ n) × Fault11 l) ⊎ (((12 ≡ n) × Fault12 l) ⊎ (((13 ≡ n) × Fault13 l) ⊎ ((14 ≡ n) × Fault14 l))))))))))
+    ((4 ≡ n) × Fault4 l) ⊎ (((5 ≡ n) × Fault5 l) ⊎ (((6 ≡ n) × Fault6 l) ⊎ (((7 ≡ n) × Fault7 l) ⊎ (((22 ≡ n) × Fault22 l) ⊎ (((8 ≡ n) × Fault8 l) ⊎ (((9 ≡ n) × Fault9 l)
+    ⊎ (((10 ≡ n) × Fault10 l) ⊎ (((11 ≡ n) × Fault11 l) ⊎ (((12 ≡ n) × Fault12 l) ⊎ (((13 ≡ n) × Fault13 l) ⊎ ((14 ≡ n) × Fault14 l)))))))))))
+
+-- where a row stands among a line's: by its number, and 22 "tested after 7"
+abbrev pub rowPlace : ℕ → ℕ
+rowPlace n = cond (eqb n 22) 15 (2 * n)
 
 -- the first row that the line meets has number n
 abbrev pub FirstLineFault : ℕ → Line → Type 0
-FirstLineFault n l = LineFault n l × ((k : ℕ) → k < n → LineFault k l → ⊥)
+FirstLineFault n l = LineFault n l × ((k : ℕ) → rowPlace k < rowPlace n → LineFault k l → ⊥)
 
--- 15: a range isn't finite, lo ≥ hi (a NaN is no number below another), or it leaves the line's bounds
+-- 15: a range isn't finite, lo ≥ hi (a NaN is no number below another), or it leaves the line's bounds; on a closed line, it doesn't start in [first knot, last knot) or is, as rounded,
+-- longer than the period
 abbrev pub Fault15 : Line → Float → Float → Type 0
 Fault15 l lo hi =
-    (Finite lo → ⊥) ⊎ ((Finite hi → ⊥) ⊎ ((T (lt lo hi) → ⊥) ⊎ ((T (le (boundsOf l .lo) lo) → ⊥) ⊎ (T (le hi (boundsOf l .hi)) → ⊥))))
+    (Finite lo → ⊥) ⊎ ((Finite hi → ⊥) ⊎ ((T (lt lo hi) → ⊥) ⊎ ((T (le (boundsOf l .lo) lo) → ⊥)
+    ⊎ ByKind (l .closed) ((T (lt lo (boundsOf l .hi)) → ⊥) ⊎ (T (le (sub binary64 hi lo) (sub binary64 (boundsOf l .hi) (boundsOf l .lo))) → ⊥))
+    (T (le hi (boundsOf l .hi)) → ⊥))))
 
 -- 16: the gap isn't from 0 to 2^24
 abbrev pub Fault16 : Float → Type 0

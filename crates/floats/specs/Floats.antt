@@ -2,8 +2,10 @@
 use mathlib.Core.Path.{_≡_}
 use mathlib.Core.Logic.{_⊎_}
 use mathlib.Core.Bool.{Bool, false, cond}
-use lib.Dec.{T}
-use lib.Ieee.{Float, nan, binary64, add, mul, le, eq, ofBits}
+use Prim.Native.Nat.{_*_, _/_, _%_}
+use lib.IntN.{pos, negsuc}
+use lib.Dec.{T, eqb}
+use lib.Ieee.{Float, nan, inf, fin, binary64, up, down, add, mul, le, eq, ofInt, ofBits}
 use Rattle.floats.specs.Sizes.{Number}
 
 -- Rust's `f64::min` and `f64::max`: a NaN is skipped. Of two equal numbers, as the zeros, the first; the Rust leaves the sign of a zero open here.
@@ -39,3 +41,14 @@ half64 = ofBits binary64 0x3fe0_0000_0000_0000
 -- 0.5 × (lo + hi), each operation rounded: the middle of a range, and the mean of neighbours in a net
 unfoldable pub middle : Float → Float → Float
 middle lo hi = mul binary64 half64 (add binary64 lo hi)
+
+-- 2^53, up to which each whole number is a double
+abbrev pub two53 : Float
+two53 = ofBits binary64 0x4340_0000_0000_0000
+
+-- Rust's `f64::floor`: the greatest whole number that is not above x; x itself where it is whole, a NaN or an infinity. A negative x that isn't whole lies above −(q + 1), q its whole part
+unfoldable pub floorOf : Float → Float
+floorOf nan = nan
+floorOf (inf s) = inf s
+floorOf (fin s m e) =
+    cond (eqb (m * up e % down e) 0) (fin s m e) (cond s (ofInt binary64 (negsuc (m * up e / down e))) (ofInt binary64 (pos (m * up e / down e))))

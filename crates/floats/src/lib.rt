@@ -1,9 +1,11 @@
-// Least, greatest, middle and vectors of f64, one rounding a step.
+// Least, greatest, middle, floor and vectors of f64, one rounding a step.
 ghost use mathlib.Core.Path.{_≡_};
-ghost use mathlib.Core.Bool.{cond};
-ghost use lib.Ieee.{lt, le};
+ghost use mathlib.Core.Bool.{true, cond};
+ghost use Prim.Native.Nat.{_+_, _<_, _≤_};
+ghost use lib.IntN.{pos};
+ghost use lib.Ieee.{binary64, lt, le, ofInt};
 ghost use Rattle.roots.specs.Root.{rootOf};
-ghost use Rattle.floats.specs.Floats.{least, greatest, within, middle};
+ghost use Rattle.floats.specs.Floats.{least, greatest, within, zero64, two53, middle, floorOf};
 ghost use Rattle.floats.specs.Vectors.{subOf, dotOf, crossOf, normOf};
 
 // b where it is less than a, else a: one instruction of the machine.
@@ -57,6 +59,58 @@ pub fn mean(a: f64, b: f64) -> f64
     ensures { λ r. ⌜ r ≡ middle a b ⌝ }
 {
     0.5 * (a + b)
+}
+
+// A whole number above x, to start from.
+fn width(x: f64) -> u64
+    requires { ⌜ lt x two53 ≡ true ⌝ }
+    ensures { λ r. ⌜ (lt x (ofInt binary64 (pos r)) ≡ true) × (1 ≤ r) × (r ≤ 9007199254740992) ⌝ }
+{
+    if x < 4.0 {
+        return 4;
+    }
+    9007199254740992
+}
+
+// The whole number n with n <= x < n + 1, for an x from 0 to below 2^53. It lies from n to below n + w, and w is halved until it is 1.
+fn whole_below(x: f64) -> u64
+    requires { ⌜ (le zero64 x ≡ true) × (lt x two53 ≡ true) ⌝ }
+    ensures { λ r. ⌜ (le (ofInt binary64 (pos r)) x ≡ true) × (lt x (ofInt binary64 (pos (r + 1))) ≡ true) × (r < 9007199254740992) ⌝ }
+{
+    let mut n: u64 = 0;
+    let mut w = width(x);
+    while w > 1 {
+        let h = w / 2;
+        if (n + h) as f64 <= x {
+            n += h;
+            w -= h;
+        } else {
+            w = h;
+        }
+    }
+    n
+}
+
+// The greatest whole number that is not above x, as Rust's `f64::floor`; x itself where it is whole, a NaN or an infinity.
+pub fn floor(x: f64) -> f64
+    ensures { λ r. ⌜ r ≡ floorOf x ⌝ }
+{
+    if x >= 0.0 {
+        if x < 9007199254740992.0 {
+            let below = whole_below(x) as f64;
+            if below < x {
+                return below;
+            }
+        }
+        return x;
+    }
+    if x > -9007199254740992.0 {
+        let n = whole_below(-x);
+        if (n as f64) < -x {
+            return -((n + 1) as f64);
+        }
+    }
+    x
 }
 
 pub struct Vector3D {

@@ -6,8 +6,8 @@ use Prim.Native.Nat.{ℕ, suc}
 use native.Mathlib.Omega.{arith}
 use lib.Ieee.{Float}
 use Rattle.lines.specs.declared.Admission.{Admission}
-use Rattle.lines.specs.declared.Admission.the-variants.{Admitted, InvalidDegree, KnotCount, KnotOutOfRange, KnotsNotIncreasing, MultiplicityTooLarge, ZeroMultiplicity}
-use Rattle.lines.specs.Admit.{admissionNumber, degreeOut, knotCountOut, knotOut, notIncreasing, tooLarge, zeroMult, validateDirection}
+use Rattle.lines.specs.declared.Admission.the-variants.{Admitted, InvalidDegree, KnotCount, KnotOutOfRange, KnotsNotIncreasing, EndMultiplicitiesDiffer, MultiplicityTooLarge, ZeroMultiplicity}
+use Rattle.lines.specs.Admit.{admissionNumber, degreeOut, knotCountOut, knotOut, notIncreasing, endsDiffer, tooLarge, zeroMult, validateKnots, validateMults, validateDirection}
 
 -- a test on the way to Admitted was not met
 pub pass : (b : Bool) (x y : Admission) → (x ≡ Admitted → ⊥) → cond b x y ≡ Admitted → (b ≡ false) × (y ≡ Admitted)
@@ -18,34 +18,36 @@ pass false x y h e = (refl, e)
 pub refusal : (x : Admission) (n : ℕ) → admissionNumber x ≡ suc n → x ≡ Admitted → ⊥
 refusal x n h e = let z : 0 ≡ suc n = sym (ap admissionNumber e) ∙ h in omega arith
 
--- six tests one after the other, whatever they are
-abbrev six : Bool → Bool → Bool → Bool → Bool → Bool → Admission → Admission
-six b4 b5 b6 b7 b8 b9 next =
-    cond b4 InvalidDegree (cond b5 KnotCount (cond b6 KnotOutOfRange (cond b7 KnotsNotIncreasing (cond b8 MultiplicityTooLarge (cond b9 ZeroMultiplicity next)))))
+-- ---- tests one after the other, each with its refusal: none is met and what follows is answered, or the answer is the same whatever follows
+abbrev pub Chain : (Admission → Admission) → Type 0
+Chain f = ((next : Admission) → f Admitted ≡ Admitted → f next ≡ next) × ((next : Admission) → (f Admitted ≡ Admitted → ⊥) → f next ≡ f Admitted)
 
-six-passed : (b4 b5 b6 b7 b8 b9 : Bool) (next : Admission) → six b4 b5 b6 b7 b8 b9 Admitted ≡ Admitted → six b4 b5 b6 b7 b8 b9 next ≡ next
-six-passed true b5 b6 b7 b8 b9 next e = absurd (refusal InvalidDegree 3 refl e)
-six-passed false true b6 b7 b8 b9 next e = absurd (refusal KnotCount 4 refl e)
-six-passed false false true b7 b8 b9 next e = absurd (refusal KnotOutOfRange 5 refl e)
-six-passed false false false true b8 b9 next e = absurd (refusal KnotsNotIncreasing 6 refl e)
-six-passed false false false false true b9 next e = absurd (refusal MultiplicityTooLarge 7 refl e)
-six-passed false false false false false true next e = absurd (refusal ZeroMultiplicity 8 refl e)
-six-passed false false false false false false next e = refl
+no-test : Chain (λ next. next)
+no-test = (λ next e. refl, λ next h. absurd (h refl))
 
-six-stops : (b4 b5 b6 b7 b8 b9 : Bool) (next : Admission) → (six b4 b5 b6 b7 b8 b9 Admitted ≡ Admitted → ⊥) → six b4 b5 b6 b7 b8 b9 next ≡ six b4 b5 b6 b7 b8 b9 Admitted
-six-stops true b5 b6 b7 b8 b9 next h = refl
-six-stops false true b6 b7 b8 b9 next h = refl
-six-stops false false true b7 b8 b9 next h = refl
-six-stops false false false true b8 b9 next h = refl
-six-stops false false false false true b9 next h = refl
-six-stops false false false false false true next h = refl
-six-stops false false false false false false next h = absurd (h refl)
+test : (b : Bool) (x : Admission) (f : Admission → Admission) → (x ≡ Admitted → ⊥) → Chain f → Chain (λ next. cond b x (f next))
+test true x f h c = (λ next e. absurd (h e), λ next k. refl)
+test false x f h c = c
 
-module _ (degree : ℕ) (knots : List Float) (mults : List ℕ) (next : Admission) where
-  pub passed : validateDirection degree knots mults Admitted ≡ Admitted → validateDirection degree knots mults next ≡ next
-  unfolding validateDirection
-  passed e = six-passed (degreeOut degree) (knotCountOut knots mults) (knotOut knots) (notIncreasing knots) (tooLarge degree mults) (zeroMult mults) next e
+module _ (degree : ℕ) (knots : List Float) (mults : List ℕ) (rest : Admission → Admission) (c : Chain rest) where
+  knots-then : Chain (λ next. validateKnots degree knots mults (rest next))
+  unfolding validateKnots
+  knots-then =
+      test (degreeOut degree) InvalidDegree _ (refusal InvalidDegree 3 refl)
+      (test (knotCountOut knots mults) KnotCount _ (refusal KnotCount 4 refl)
+      (test (knotOut knots) KnotOutOfRange _ (refusal KnotOutOfRange 5 refl)
+      (test (notIncreasing knots) KnotsNotIncreasing _ (refusal KnotsNotIncreasing 6 refl) c)))
 
-  pub stops : (validateDirection degree knots mults Admitted ≡ Admitted → ⊥) → validateDirection degree knots mults next ≡ validateDirection degree knots mults Admitted
-  unfolding validateDirection
-  stops h = six-stops (degreeOut degree) (knotCountOut knots mults) (knotOut knots) (notIncreasing knots) (tooLarge degree mults) (zeroMult mults) next h
+pub knots-chain : (degree : ℕ) (knots : List Float) (mults : List ℕ) → Chain (validateKnots degree knots mults)
+knots-chain degree knots mults = knots-then degree knots mults (λ next. next) no-test
+
+module _ (closed : Bool) (degree : ℕ) (knots : List Float) (mults : List ℕ) where
+  mults-chain : Chain (validateMults closed degree mults)
+  unfolding validateMults
+  mults-chain =
+      test (endsDiffer closed mults) EndMultiplicitiesDiffer _ (refusal EndMultiplicitiesDiffer 21 refl)
+      (test (tooLarge closed degree mults) MultiplicityTooLarge _ (refusal MultiplicityTooLarge 7 refl)
+      (test (zeroMult mults) ZeroMultiplicity _ (refusal ZeroMultiplicity 8 refl) no-test))
+
+  pub direction-chain : Chain (validateDirection closed degree knots mults)
+  direction-chain = knots-then degree knots mults (validateMults closed degree mults) mults-chain

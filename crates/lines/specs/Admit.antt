@@ -1,6 +1,6 @@
--- Document 01's table, numbers 4 to 14: what is wrong with a line. Definitions only.
+-- Document 01's table, numbers 4 to 14, and document 02's 22 of a closed line: what is wrong with a line. Definitions only.
 use Prim.Native.Nat.{ℕ, _+_, _-_, _/_, _%_}
-use mathlib.Core.Bool.{Bool, cond, not, _||_}
+use mathlib.Core.Bool.{Bool, cond, not, _&&_, _||_}
 use mathlib.Core.List.{List}
 use lib.ListN.{getD, length, take, drop}
 use lib.Dec.{ltb, leb, eqb}
@@ -9,7 +9,7 @@ use Rattle.lists.specs.Tests.{every, eachTwo, total}
 use Rattle.floats.specs.Floats.{within}
 use Rattle.lines.specs.Lines.{Line}
 use Rattle.lines.specs.declared.Admission.{Admission}
-use Rattle.lines.specs.declared.Admission.the-variants.{Admitted, InvalidDegree, KnotCount, KnotOutOfRange, KnotsNotIncreasing, MultiplicityTooLarge, ZeroMultiplicity, PoleCountMismatch, PoleCountOutOfRange, WeightCountMismatch, WeightOutOfRange, CoordinateOutOfRange}
+use Rattle.lines.specs.declared.Admission.the-variants.{Admitted, InvalidDegree, KnotCount, KnotOutOfRange, KnotsNotIncreasing, EndMultiplicitiesDiffer, MultiplicityTooLarge, ZeroMultiplicity, PoleCountMismatch, PoleCountOutOfRange, WeightCountMismatch, WeightOutOfRange, CoordinateOutOfRange}
 
 -- the table's number for each case, and 0 for an admitted line
 abbrev pub admissionNumber : Admission → ℕ
@@ -18,6 +18,7 @@ admissionNumber InvalidDegree = 4
 admissionNumber KnotCount = 5
 admissionNumber KnotOutOfRange = 6
 admissionNumber KnotsNotIncreasing = 7
+admissionNumber EndMultiplicitiesDiffer = 22
 admissionNumber MultiplicityTooLarge = 8
 admissionNumber ZeroMultiplicity = 9
 admissionNumber PoleCountMismatch = 10
@@ -59,18 +60,30 @@ knotOut knots = not (every (within (neg two20) two20) knots)
 abbrev pub notIncreasing : List Float → Bool
 notIncreasing knots = not (eachTwo lt knots)
 
--- 8: an end multiplicity is over degree + 1, or an inner one over degree
-unfoldable pub tooLarge : ℕ → List ℕ → Bool
-tooLarge degree mults =
+-- 22: the end multiplicities of a closed line differ
+unfoldable pub endsDiffer : Bool → List ℕ → Bool
+endsDiffer closed mults = closed && not (eqb (getD mults 0 0) (getD mults (length mults - 1) 0))
+
+-- 8 of an open line: an end multiplicity is over degree + 1, or an inner one over degree
+unfoldable pub endsTooLarge : ℕ → List ℕ → Bool
+endsTooLarge degree mults =
     ltb (degree + 1) (getD mults 0 0) || ltb (degree + 1) (getD mults (length mults - 1) 0) || not (every (λ m. leb m degree) (inner mults))
+
+-- 8: on a closed line none may be over the degree
+unfoldable pub tooLarge : Bool → ℕ → List ℕ → Bool
+tooLarge closed degree mults = cond closed (not (every (λ m. leb m degree) mults)) (endsTooLarge degree mults)
 
 -- 9: a multiplicity is 0
 abbrev pub zeroMult : List ℕ → Bool
 zeroMult mults = not (every (λ m. ltb 0 m) mults)
 
--- 10: coordinates are no multiple of 3, or poles ≠ sum of multiplicities − degree − 1
-abbrev pub poleMismatch : ℕ → List ℕ → List Float → Bool
-poleMismatch degree mults coords = not (eqb (length coords % 3) 0) || not (eqb (length coords / 3 + degree + 1) (total mults))
+-- what the sum of the multiplicities exceeds the poles by: degree + 1, on a closed line the last multiplicity
+unfoldable pub beyondOf : Bool → ℕ → List ℕ → ℕ
+beyondOf closed degree mults = cond closed (getD mults (length mults - 1) 0) (degree + 1)
+
+-- 10: coordinates are no multiple of 3, or poles ≠ sum of multiplicities − degree − 1, on a closed line sum − last multiplicity
+abbrev pub poleMismatch : Bool → ℕ → List ℕ → List Float → Bool
+poleMismatch closed degree mults coords = not (eqb (length coords % 3) 0) || not (eqb (length coords / 3 + beyondOf closed degree mults) (total mults))
 
 -- 11: poles are fewer than degree + 1 or over 128
 abbrev pub poleCountOut : ℕ → List Float → Bool
@@ -88,25 +101,34 @@ weightOut weights = not (every (within one1024th two10) weights)
 abbrev pub coordOut : List Float → Bool
 coordOut coords = not (every (within (neg two24) two24) coords)
 
--- numbers 4 to 9 in the table's order (`validate_direction`; 6 and 9 added); `next` where none of them is met
-unfoldable pub validateDirection : ℕ → List Float → List ℕ → Admission → Admission
-validateDirection degree knots mults next =
+-- numbers 4 to 7 in the table's order; `next` where none of them is met
+unfoldable pub validateKnots : ℕ → List Float → List ℕ → Admission → Admission
+validateKnots degree knots mults next =
     cond (degreeOut degree) InvalidDegree
     (cond (knotCountOut knots mults) KnotCount
     (cond (knotOut knots) KnotOutOfRange
-    (cond (notIncreasing knots) KnotsNotIncreasing
-    (cond (tooLarge degree mults) MultiplicityTooLarge
-    (cond (zeroMult mults) ZeroMultiplicity next)))))
+    (cond (notIncreasing knots) KnotsNotIncreasing next)))
+
+-- "22 when the end multiplicities differ, tested after 7", then 8 and 9; `next` where none of them is met
+unfoldable pub validateMults : Bool → ℕ → List ℕ → Admission → Admission
+validateMults closed degree mults next =
+    cond (endsDiffer closed mults) EndMultiplicitiesDiffer
+    (cond (tooLarge closed degree mults) MultiplicityTooLarge
+    (cond (zeroMult mults) ZeroMultiplicity next))
+
+-- both, one after the other (`validate_direction`; 6 and 9 added)
+abbrev pub validateDirection : Bool → ℕ → List Float → List ℕ → Admission → Admission
+validateDirection closed degree knots mults next = validateKnots degree knots mults (validateMults closed degree mults next)
 
 -- numbers 10 to 14 in the table's order (the pole count of `validate_direction`, the weights of `BSplineCurve3D`'s constructors, the added limits)
-unfoldable pub validatePoles : ℕ → List ℕ → List Float → List Float → Admission
-validatePoles degree mults coords weights =
-    cond (poleMismatch degree mults coords) PoleCountMismatch
+unfoldable pub validatePoles : Bool → ℕ → List ℕ → List Float → List Float → Admission
+validatePoles closed degree mults coords weights =
+    cond (poleMismatch closed degree mults coords) PoleCountMismatch
     (cond (poleCountOut degree coords) PoleCountOutOfRange
     (cond (weightMismatch coords weights) WeightCountMismatch
     (cond (weightOut weights) WeightOutOfRange
     (cond (coordOut coords) CoordinateOutOfRange Admitted))))
 
--- 4 to 14: `admit`
+-- 4 to 14 and 22: `admit`
 abbrev pub admitOf : Line → Admission
-admitOf l = validateDirection (l .degree) (l .knots) (l .mults) (validatePoles (l .degree) (l .mults) (l .coords) (l .weights))
+admitOf l = validateDirection (l .closed) (l .degree) (l .knots) (l .mults) (validatePoles (l .closed) (l .degree) (l .mults) (l .coords) (l .weights))

@@ -1,10 +1,12 @@
 -- Lines and questions as they come in. Definitions only.
 use Prim.Native.Nat.{ℕ}
+use mathlib.Core.Bool.{Bool}
 use mathlib.Core.List.{List}
 use lib.Ieee.{Float}
 
--- a line: its degree, knots, multiplicities, poles as x, y, z in turn, and weights, none of which there may be
+-- a line: whether it is closed, its degree, knots, multiplicities, poles as x, y, z in turn, and weights, none of which there may be
 pub record Line : Type 0 where
+  pub closed : Bool
   pub degree : ℕ
   pub knots : List Float
   pub mults : List ℕ
@@ -12,8 +14,8 @@ pub record Line : Type 0 where
   pub weights : List Float
 
 -- a line by its parts, as the code takes them
-abbrev pub lineOf : ℕ → List Float → List ℕ → List Float → List Float → Line
-lineOf degree knots mults coords weights = record { degree = degree; knots = knots; mults = mults; coords = coords; weights = weights }
+abbrev pub lineOf : Bool → ℕ → List Float → List ℕ → List Float → List Float → Line
+lineOf closed degree knots mults coords weights = record { closed = closed; degree = degree; knots = knots; mults = mults; coords = coords; weights = weights }
 
 -- a question about two lines: a range of each, the gap, and the splits per pair, S
 pub record Question : Type 0 where

@@ -1,4 +1,4 @@
-// Admission of a line: the table's numbers 4 to 14, in its order.
+// Admission of a line: the table's numbers 4 to 14, and 22 of a closed line after 7, in this order.
 ghost use mathlib.Core.Path.{_≡_};
 ghost use mathlib.Core.Bool.{_||_};
 ghost use Prim.Native.Nat.{_≤_, _<_};
@@ -9,7 +9,7 @@ ghost use Rattle.lists.specs.Tests.{every, eachTwo, total};
 ghost use Rattle.floats.specs.Floats.{within};
 ghost use Rattle.lines.specs.declared.Admission.the-variants.{Admitted};
 ghost use Rattle.lines.specs.Lines.{lineOf};
-ghost use Rattle.lines.specs.Admit.{admissionNumber, tooLarge, validateDirection, validatePoles, admitOf};
+ghost use Rattle.lines.specs.Admit.{admissionNumber, endsDiffer, endsTooLarge, tooLarge, beyondOf, validateKnots, validateMults, validateDirection, validatePoles, admitOf};
 
 // Why a line is refused, or that it isn't. `BSplineConstructionError` names five of the cases.
 pub enum Admission {
@@ -18,6 +18,7 @@ pub enum Admission {
     KnotCount,
     KnotOutOfRange,
     KnotsNotIncreasing,
+    EndMultiplicitiesDiffer,
     MultiplicityTooLarge,
     ZeroMultiplicity,
     PoleCountMismatch,
@@ -37,6 +38,7 @@ pub fn admission_number(a: Admission) -> u8
         Admission::KnotCount => 5,
         Admission::KnotOutOfRange => 6,
         Admission::KnotsNotIncreasing => 7,
+        Admission::EndMultiplicitiesDiffer => 22,
         Admission::MultiplicityTooLarge => 8,
         Admission::ZeroMultiplicity => 9,
         Admission::PoleCountMismatch => 10,
@@ -125,9 +127,9 @@ fn sum(s: &[u32]) -> u64
 }
 
 // Whether an end multiplicity is over degree + 1, or an inner one over the degree.
-fn too_large(degree: u32, mults: &[u32]) -> bool
+fn ends_too_large(degree: u32, mults: &[u32]) -> bool
     requires { ⌜ (degree ≤ 25) × (2 ≤ length (now mults)) ⌝ }
-    ensures { λ r. ⌜ r ≡ tooLarge degree (now (mults .entry)) ⌝ }
+    ensures { λ r. ⌜ r ≡ endsTooLarge degree (now (mults .entry)) ⌝ }
 {
     let last = mults.len() - 1;
     if mults[0] > degree + 1 {
@@ -139,9 +141,32 @@ fn too_large(degree: u32, mults: &[u32]) -> bool
     !all_at_most(&mults[1..last], degree)
 }
 
-// Numbers 4 to 9, or Admitted.
-fn validate_direction(degree: u32, knots: &[f64], mults: &[u32]) -> Admission
-    ensures { λ r. ⌜ r ≡ validateDirection degree (now (knots .entry)) (now (mults .entry)) Admitted ⌝ }
+// Whether a multiplicity is over the degree; at the ends of an open line, over degree + 1.
+fn too_large(closed: bool, degree: u32, mults: &[u32]) -> bool
+    requires { ⌜ (degree ≤ 25) × (2 ≤ length (now mults)) ⌝ }
+    ensures { λ r. ⌜ r ≡ tooLarge closed degree (now (mults .entry)) ⌝ }
+{
+    if closed {
+        return !all_at_most(mults, degree);
+    }
+    ends_too_large(degree, mults)
+}
+
+// Whether the first and the last multiplicity of a closed line differ.
+fn ends_differ(closed: bool, mults: &[u32]) -> bool
+    requires { ⌜ 2 ≤ length (now mults) ⌝ }
+    ensures { λ r. ⌜ r ≡ endsDiffer closed (now (mults .entry)) ⌝ }
+{
+    let last = mults.len() - 1;
+    if closed {
+        return mults[0] != mults[last];
+    }
+    false
+}
+
+// Numbers 4 to 7, or Admitted.
+fn validate_knots(degree: u32, knots: &[f64], mults: &[u32]) -> Admission
+    ensures { λ r. ⌜ r ≡ validateKnots degree (now (knots .entry)) (now (mults .entry)) Admitted ⌝ }
 {
     if degree < 1 {
         return Admission::InvalidDegree;
@@ -164,13 +189,46 @@ fn validate_direction(degree: u32, knots: &[f64], mults: &[u32]) -> Admission
     if !increasing(knots) {
         return Admission::KnotsNotIncreasing;
     }
-    if too_large(degree, mults) {
+    Admission::Admitted
+}
+
+// Numbers 22, 8 and 9, or Admitted.
+fn validate_mults(closed: bool, degree: u32, mults: &[u32]) -> Admission
+    requires { ⌜ (degree ≤ 25) × (2 ≤ length (now mults)) ⌝ }
+    ensures { λ r. ⌜ r ≡ validateMults closed degree (now (mults .entry)) Admitted ⌝ }
+{
+    if ends_differ(closed, mults) {
+        return Admission::EndMultiplicitiesDiffer;
+    }
+    if too_large(closed, degree, mults) {
         return Admission::MultiplicityTooLarge;
     }
     if !all_positive(mults) {
         return Admission::ZeroMultiplicity;
     }
     Admission::Admitted
+}
+
+// Numbers 4 to 9, 22 after 7, or Admitted.
+fn validate_direction(closed: bool, degree: u32, knots: &[f64], mults: &[u32]) -> Admission
+    ensures { λ r. ⌜ r ≡ validateDirection closed degree (now (knots .entry)) (now (mults .entry)) Admitted ⌝ }
+{
+    let spacing = validate_knots(degree, knots, mults);
+    let Admission::Admitted = spacing else {
+        return spacing;
+    };
+    validate_mults(closed, degree, mults)
+}
+
+// What the sum of the multiplicities exceeds the poles by: degree + 1, on a closed line the last multiplicity.
+fn beyond(closed: bool, degree: u32, mults: &[u32]) -> u64
+    requires { ⌜ (degree ≤ 25) × (2 ≤ length (now mults)) ⌝ }
+    ensures { λ r. ⌜ (r ≡ beyondOf closed degree (now (mults .entry))) × (r < 4294967296) ⌝ }
+{
+    if closed {
+        return wide(mults[mults.len() - 1]);
+    }
+    wide(degree + 1)
 }
 
 // Whether there are no weights, or one a pole.
@@ -184,15 +242,21 @@ fn weights_fit(n: usize, poles: usize) -> bool
 }
 
 // Numbers 10 to 14, or Admitted.
-fn validate_poles(degree: u32, mults: &[u32], coords: &[f64], weights: &[f64]) -> Admission
-    requires { ⌜ (degree ≤ 25) × (length (now mults) ≤ 128) ⌝ }
-    ensures { λ r. ⌜ r ≡ validatePoles degree (now (mults .entry)) (now (coords .entry)) (now (weights .entry)) ⌝ }
+fn validate_poles(
+    closed: bool,
+    degree: u32,
+    mults: &[u32],
+    coords: &[f64],
+    weights: &[f64],
+) -> Admission
+    requires { ⌜ (degree ≤ 25) × (2 ≤ length (now mults)) × (length (now mults) ≤ 128) ⌝ }
+    ensures { λ r. ⌜ r ≡ validatePoles closed degree (now (mults .entry)) (now (coords .entry)) (now (weights .entry)) ⌝ }
 {
     let poles = coords.len() / 3;
     if coords.len() % 3 != 0 {
         return Admission::PoleCountMismatch;
     }
-    if poles as u64 + degree as u64 + 1 != sum(mults) {
+    if poles as u64 + beyond(closed, degree, mults) != sum(mults) {
         return Admission::PoleCountMismatch;
     }
     if poles < degree as usize + 1 {
@@ -215,17 +279,18 @@ fn validate_poles(degree: u32, mults: &[u32], coords: &[f64], weights: &[f64]) -
 
 // Whether a line is admitted, and if not, the first fault in the table's order. Any slices at all.
 pub fn admit(
+    closed: bool,
     degree: u32,
     knots: &[f64],
     mults: &[u32],
     coords: &[f64],
     weights: &[f64],
 ) -> Admission
-    ensures { λ r. ⌜ r ≡ admitOf (lineOf degree (now (knots .entry)) (now (mults .entry)) (now (coords .entry)) (now (weights .entry))) ⌝ }
+    ensures { λ r. ⌜ r ≡ admitOf (lineOf closed degree (now (knots .entry)) (now (mults .entry)) (now (coords .entry)) (now (weights .entry))) ⌝ }
 {
-    let direction = validate_direction(degree, knots, mults);
+    let direction = validate_direction(closed, degree, knots, mults);
     let Admission::Admitted = direction else {
         return direction;
     };
-    validate_poles(degree, mults, coords, weights)
+    validate_poles(closed, degree, mults, coords, weights)
 }

@@ -1,5 +1,6 @@
 -- An opening with too few words: every piece needs room, so an opening that is lent nothing is refused. Assumes nothing.
 use mathlib.Core.Path.{_≡_, refl, sym, ap, _∙_}
+use mathlib.Core.Logic.{inl, inr}
 use mathlib.Core.Bool.{Bool, true, false, _&&_, cond, false≢true}
 use mathlib.Core.List.{List, [], _∷_}
 use Prim.Native.Nat.{ℕ, _+_, _*_, _≤_, _<_}
@@ -10,10 +11,10 @@ use lib.Dec.{lit≤}
 use lib.ListN.{length}
 use lib.Ieee.{Float}
 use Rattle.lines.specs.declared.Admission.{Admission}
-use Rattle.lines.specs.declared.Admission.the-variants.{Admitted, InvalidDegree, KnotCount, KnotOutOfRange, KnotsNotIncreasing, MultiplicityTooLarge, ZeroMultiplicity, PoleCountMismatch, PoleCountOutOfRange, WeightCountMismatch, WeightOutOfRange, CoordinateOutOfRange}
+use Rattle.lines.specs.declared.Admission.the-variants.{Admitted, InvalidDegree, KnotCount, KnotOutOfRange, KnotsNotIncreasing, EndMultiplicitiesDiffer, MultiplicityTooLarge, ZeroMultiplicity, PoleCountMismatch, PoleCountOutOfRange, WeightCountMismatch, WeightOutOfRange, CoordinateOutOfRange}
 use Rattle.lines.specs.Admit.{admissionNumber, admitOf}
 use Rattle.lines.specs.Lines.{Question}
-use Rattle.knots.specs.Knots.{inside, between}
+use Rattle.knots.specs.Knots.{inside, between, knotsOf}
 use Rattle.curves.specs.Curves.{pieceCount}
 use Rattle.questions.specs.declared.Asked.{Asked as AskAnswer}
 use Rattle.questions.specs.declared.Asked.the-variants.{Fine, RangeOutOfBounds, GapOutOfRange, TooManySplits, BreaksTooClose}
@@ -23,7 +24,7 @@ use Rattle.opening.specs.declared.Opened.the-variants.{BadLine, BadQuestion, No
 use Rattle.opening.specs.Opens.{openedNumber, isAdmitted, isFine, piecesNeed, piecesFit, Opening, opening, openPieces, openDef}
 use Rattle.lovgurshem.specs.Answers.{openAnswer}
 use Rattle.lovgurshem.specs.Calls.{openCall, refusalOf, callOpen}
-use Rattle.lovgurshem.specs.Short.{passes, ShortState}
+use Rattle.lovgurshem.specs.Short.{FaultNumber, passes, ShortState}
 
 -- ---- no pieces fit an empty slice
 some-between : (lo hi : Float) (ks l : List Float) → 1 ≤ length l → 1 ≤ length (between lo hi ks l)
@@ -37,33 +38,34 @@ some-between lo hi (k ∷ ks) l h = go (inside lo hi k) (some-between lo hi ks l
 
 none-fit : (q : Question) (p : List Float) → piecesFit q [] p ≡ false
 none-fit q p =
-    let n = some-between (q .lo1) (q .hi1) (q .line1 .knots) (q .hi1 ∷ []) (lit≤ tt) in
+    let n = some-between (q .lo1) (q .hi1) (knotsOf (q .line1)) (q .hi1 ∷ []) (lit≤ tt) in
     let a : 1 ≤ pieceCount (q .line1) (q .lo1) (q .hi1) = omega (arith, n) in
     let b : 4 ≤ 4 * (q .line1 .degree + 1) = omega arith in
     let c : 0 < piecesNeed (q .line1) (q .lo1) (q .hi1) = let m = mul-le-mul a b in omega (arith, m) in
     rw (lt-leb _ _ c) refl
 
 -- ---- the numbers of a line's and of a question's faults
-bad-line : (a : Admission) → isAdmitted a ≡ false → (4 ≤ admissionNumber a) × (admissionNumber a ≤ 18)
+bad-line : (a : Admission) → isAdmitted a ≡ false → FaultNumber (admissionNumber a)
 bad-line Admitted e = absurd (false≢true (sym e))
-bad-line InvalidDegree e = (lit≤ tt, lit≤ tt)
-bad-line KnotCount e = (lit≤ tt, lit≤ tt)
-bad-line KnotOutOfRange e = (lit≤ tt, lit≤ tt)
-bad-line KnotsNotIncreasing e = (lit≤ tt, lit≤ tt)
-bad-line MultiplicityTooLarge e = (lit≤ tt, lit≤ tt)
-bad-line ZeroMultiplicity e = (lit≤ tt, lit≤ tt)
-bad-line PoleCountMismatch e = (lit≤ tt, lit≤ tt)
-bad-line PoleCountOutOfRange e = (lit≤ tt, lit≤ tt)
-bad-line WeightCountMismatch e = (lit≤ tt, lit≤ tt)
-bad-line WeightOutOfRange e = (lit≤ tt, lit≤ tt)
-bad-line CoordinateOutOfRange e = (lit≤ tt, lit≤ tt)
+bad-line InvalidDegree e = inl (lit≤ tt, lit≤ tt)
+bad-line KnotCount e = inl (lit≤ tt, lit≤ tt)
+bad-line KnotOutOfRange e = inl (lit≤ tt, lit≤ tt)
+bad-line KnotsNotIncreasing e = inl (lit≤ tt, lit≤ tt)
+bad-line EndMultiplicitiesDiffer e = inr refl
+bad-line MultiplicityTooLarge e = inl (lit≤ tt, lit≤ tt)
+bad-line ZeroMultiplicity e = inl (lit≤ tt, lit≤ tt)
+bad-line PoleCountMismatch e = inl (lit≤ tt, lit≤ tt)
+bad-line PoleCountOutOfRange e = inl (lit≤ tt, lit≤ tt)
+bad-line WeightCountMismatch e = inl (lit≤ tt, lit≤ tt)
+bad-line WeightOutOfRange e = inl (lit≤ tt, lit≤ tt)
+bad-line CoordinateOutOfRange e = inl (lit≤ tt, lit≤ tt)
 
-bad-question : (a : AskAnswer) → isFine a ≡ false → (4 ≤ askedNumber a) × (askedNumber a ≤ 18)
+bad-question : (a : AskAnswer) → isFine a ≡ false → FaultNumber (askedNumber a)
 bad-question Fine e = absurd (false≢true (sym e))
-bad-question (RangeOutOfBounds line) e = (lit≤ tt, lit≤ tt)
-bad-question GapOutOfRange e = (lit≤ tt, lit≤ tt)
-bad-question TooManySplits e = (lit≤ tt, lit≤ tt)
-bad-question (BreaksTooClose line) e = (lit≤ tt, lit≤ tt)
+bad-question (RangeOutOfBounds line) e = inl (lit≤ tt, lit≤ tt)
+bad-question GapOutOfRange e = inl (lit≤ tt, lit≤ tt)
+bad-question TooManySplits e = inl (lit≤ tt, lit≤ tt)
+bad-question (BreaksTooClose line) e = inl (lit≤ tt, lit≤ tt)
 
 -- ---- the opening by its four tests
 module _ (q : Question) where
@@ -85,19 +87,23 @@ module _ (q : Question) where
       go false b c d e h = refl
 
   fault-number : (p1 p2 : List Float) (u : Memory) → passes q ≡ false
-      → (4 ≤ openedNumber (openDef q p1 p2 u .answer)) × (openedNumber (openDef q p1 p2 u .answer) ≤ 18)
+      → FaultNumber (openedNumber (openDef q p1 p2 u .answer))
   fault-number p1 p2 u =
       go (isAdmitted (admitOf (q .line1))) (isAdmitted (admitOf (q .line2))) (isFine (askOf q)) (piecesFit q p1 p2)
       (bad-line (admitOf (q .line1))) (bad-line (admitOf (q .line2))) (bad-question (askOf q))
     where
-      go : (a b c d : Bool) → (a ≡ false → (4 ≤ admissionNumber (admitOf (q .line1))) × (admissionNumber (admitOf (q .line1)) ≤ 18))
-          → (b ≡ false → (4 ≤ admissionNumber (admitOf (q .line2))) × (admissionNumber (admitOf (q .line2)) ≤ 18))
-          → (c ≡ false → (4 ≤ askedNumber (askOf q)) × (askedNumber (askOf q) ≤ 18)) → (a && (b && c)) ≡ false
-          → (4 ≤ openedNumber (tested a b c d p1 p2 u .answer)) × (openedNumber (tested a b c d p1 p2 u .answer) ≤ 18)
+      go : (a b c d : Bool) → (a ≡ false → FaultNumber (admissionNumber (admitOf (q .line1))))
+          → (b ≡ false → FaultNumber (admissionNumber (admitOf (q .line2))))
+          → (c ≡ false → FaultNumber (askedNumber (askOf q))) → (a && (b && c)) ≡ false
+          → FaultNumber (openedNumber (tested a b c d p1 p2 u .answer))
       go true true true d f g h e = absurd (false≢true (sym e))
       go true true false d f g h e = h refl
       go true false c d f g h e = g refl
       go false b c d f g h e = f refl
+
+  not-none : (n : ℕ) → FaultNumber n → 1 ≤ n
+  not-none n (inl h) = omega arith
+  not-none n (inr h) = omega arith
 
   -- lent nothing, no opening answers 0
   pub some-refusal : {r : ℕ} → r ≡ refusalOf q → r ≡ 0 → ⊥
@@ -105,7 +111,7 @@ module _ (q : Question) where
     where
       go : (b : Bool) → passes q ≡ b → cond b 19 (openAnswer (openDef q [] [] (memory [] [] [] [] []) .answer)) ≡ 0 → ⊥
       go true e f = omega arith
-      go false e f = let k = fault-number [] [] (memory [] [] [] [] []) e .0 in omega (arith, k, f)
+      go false e f = let k = not-none _ (fault-number [] [] (memory [] [] [] [] []) e) in omega (arith, k, f)
 
 pub short-state : ShortState
 unfolding callOpen

@@ -1,5 +1,6 @@
 -- An opening with too few words: the statement. Definitions only.
 use mathlib.Core.Path.{_≡_}
+use mathlib.Core.Logic.{_⊎_}
 use mathlib.Core.Bool.{Bool, false, _&&_, cond}
 use mathlib.Core.List.{List}
 use Prim.Native.Nat.{ℕ, _≤_, _<_}
@@ -13,13 +14,17 @@ use Rattle.opening.specs.Opens.{isAdmitted, isFine, openedNumber, openDef}
 use Rattle.lovgurshem.specs.Answers.{openAnswer}
 use Rattle.lovgurshem.specs.Calls.{openCall, callOpen}
 
--- both lines and the question pass 4 to 18
+-- a number of a line's or a question's fault: 4 to 18, or 22
+abbrev pub FaultNumber : ℕ → Type 0
+FaultNumber n = ((4 ≤ n) × (n ≤ 18)) ⊎ (n ≡ 22)
+
+-- both lines and the question pass 4 to 18 and 22
 abbrev pub passes : Question → Bool
 passes q = isAdmitted (admitOf (q .line1)) && (isAdmitted (admitOf (q .line2)) && isFine (askOf q))
 
--- 19 where they pass, and else the number, from 4 to 18, that enough words would get; all slices are as they were
+-- 19 where they pass, and else the number, from 4 to 18 or 22, that enough words would get; all slices are as they were
 abbrev pub ShortState : Type 0
 ShortState =
     (q : Question) (p1 p2 : List Float) (u : Memory) (ws : List ℕ) → length ws < 23
     → (callOpen q p1 p2 u ws ≡ openCall (cond (passes q) 19 (openAnswer (openDef q p1 p2 u .answer))) ws p1 p2 u)
-    × (passes q ≡ false → (4 ≤ openedNumber (openDef q p1 p2 u .answer)) × (openedNumber (openDef q p1 p2 u .answer) ≤ 18))
+    × (passes q ≡ false → FaultNumber (openedNumber (openDef q p1 p2 u .answer)))

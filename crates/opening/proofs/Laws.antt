@@ -1,26 +1,29 @@
 -- The opening's tests, one a return, and the room of what is pushed. Assumes nothing.
 use mathlib.Core.Path.{_≡_, refl, sym, ap, _∙_, subst}
+use Rattle.curves.proofs.Few.{few-open, few-closed}
+use Rattle.points.specs.declared.Interval.{Interval}
+use Rattle.lines.proofs.Admitted.{counts}
 use mathlib.Core.Bool.{Bool, true, false, not, cond, false≢true}
-use mathlib.Core.List.{List}
+use mathlib.Core.List.{List, [], _∷_}
 use Prim.Native.Nat.{ℕ, _+_, _-_, _*_, _≤_}
 use native.Mathlib.Nat.{le-trans, mul-le-mul, mul-le-mul-right}
 use native.Mathlib.Omega.{arith}
-use lib.Dec.{ltb, eqb}
-use borrow.Author.Tests.{ltb-false, ne-eqb}
+use lib.Dec.{ltb, eqb, T}
+use borrow.Author.Tests.{ltb-false, ne-eqb, not-false}
 use lib.ListN.{length, take, length-reverse}
 use lib.Seq.{length-take-le}
-use lib.Ieee.{Float}
+use lib.Ieee.{Float, le, lt}
 use Rattle.lists.specs.Parts.{patch}
 use Rattle.lines.specs.declared.Admission.{Admission}
-use Rattle.lines.specs.declared.Admission.the-variants.{Admitted, InvalidDegree, KnotCount, KnotOutOfRange, KnotsNotIncreasing, MultiplicityTooLarge, ZeroMultiplicity, PoleCountMismatch, PoleCountOutOfRange, WeightCountMismatch, WeightOutOfRange, CoordinateOutOfRange}
+use Rattle.lines.specs.declared.Admission.the-variants.{Admitted, InvalidDegree, KnotCount, KnotOutOfRange, KnotsNotIncreasing, EndMultiplicitiesDiffer, MultiplicityTooLarge, ZeroMultiplicity, PoleCountMismatch, PoleCountOutOfRange, WeightCountMismatch, WeightOutOfRange, CoordinateOutOfRange}
 use Rattle.questions.specs.declared.Asked.{Asked as AskAnswer}
 use Rattle.questions.specs.declared.Asked.the-variants.{RangeOutOfBounds, GapOutOfRange, TooManySplits}
 use Rattle.floats.specs.Floats.{zero64, within}
 use Rattle.lines.specs.Admit.{two24, admitOf}
 use Rattle.questions.specs.Questions.{rangeFits, askWithin, askOf}
-use Rattle.knots.specs.Knots.{boundsOf, breaksOf}
-use Rattle.curves.specs.Curves.{pieceCount}
-use Rattle.lines.specs.Lines.{Question}
+use Rattle.knots.specs.Knots.{boundsOf, breaksOf, boundsIn, unrolledOf}
+use Rattle.curves.specs.Curves.{pieceCount, countIn}
+use Rattle.lines.specs.Lines.{Question, Line}
 use Rattle.pairs.specs.Nodes.{HasPieces}
 use Rattle.pairs.specs.Pairs.{Pieces, pieces, pairsFrom, nets1Of, nets2Of, rangesOf, depthsOf}
 use Rattle.states.specs.declared.State.{State}
@@ -33,7 +36,7 @@ use Rattle.opening.specs.Opens.{searchFor, isAdmitted, isFine, piecesFit
 use Rattle.opening.proofs.Pushed.{one, other, numbered, pairs-are, memory-is}
 
 -- so many pairs as pieces allow
-pub few-pairs : (r n m : ℕ) → n ≤ 129 → m ≤ 129 → r ≤ n * m → r ≤ 16641
+pub few-pairs : (r n m : ℕ) → n ≤ 255 → m ≤ 255 → r ≤ n * m → r ≤ 65025
 few-pairs r n m h k l = let w = mul-le-mul h k in omega arith
 
 pub push-room : (x : State) (n S w1 w2 : ℕ) (gap : Float) (s : Sizes) → x ≡ firstState n S w1 w2 gap → enough (needed x) s ≡ true
@@ -147,6 +150,7 @@ is-admitted InvalidDegree e = absurd (false≢true e)
 is-admitted KnotCount e = absurd (false≢true e)
 is-admitted KnotOutOfRange e = absurd (false≢true e)
 is-admitted KnotsNotIncreasing e = absurd (false≢true e)
+is-admitted EndMultiplicitiesDiffer e = absurd (false≢true e)
 is-admitted MultiplicityTooLarge e = absurd (false≢true e)
 is-admitted ZeroMultiplicity e = absurd (false≢true e)
 is-admitted PoleCountMismatch e = absurd (false≢true e)
@@ -163,8 +167,35 @@ passed false a c h e = (refl, e)
 pub few-splits : (q : Question) → isFine (askOf q) ≡ true → q .splits ≤ 256
 unfolding askWithin
 few-splits q e =
-    let a = passed (not (rangeFits (boundsOf (q .line1)) (q .lo1) (q .hi1))) (RangeOutOfBounds 1) _ refl e in
-    let b = passed (not (rangeFits (boundsOf (q .line2)) (q .lo2) (q .hi2))) (RangeOutOfBounds 2) _ refl (a .1) in
+    let a = passed (not (rangeFits (q .line1 .closed) (boundsOf (q .line1)) (q .lo1) (q .hi1))) (RangeOutOfBounds 1) _ refl e in
+    let b = passed (not (rangeFits (q .line2 .closed) (boundsOf (q .line2)) (q .lo2) (q .hi2))) (RangeOutOfBounds 2) _ refl (a .1) in
     let c = passed (not (within zero64 two24 (q .gap))) GapOutOfRange _ refl (b .1) in
     let d = passed (ltb 256 (q .splits)) TooManySplits _ refl (c .1) in
     ltb-false 256 (q .splits) (d .0)
+
+-- and each line's range has at most 255 pieces
+starts : (bounds : Interval) (lo hi : Float) → rangeFits true bounds lo hi ≡ true → T (le (bounds .lo) lo)
+unfolding rangeFits
+starts bounds lo hi e = go (lt lo hi) (le (bounds .lo) lo) _ e
+  where
+    go : (a b x : Bool) → cond a (cond b x false) false ≡ true → T b
+    go true true x e = tt
+    go true false x e = absurd (false≢true e)
+    go false b x e = absurd (false≢true e)
+
+line-few : (l : Line) (lo hi : Float) → admitOf l ≡ Admitted → rangeFits (l .closed) (boundsOf l) lo hi ≡ true → pieceCount l lo hi ≤ 255
+unfolding boundsIn
+line-few l lo hi ok e = let C = counts l ok in go (l .closed) (l .knots) (C .two-knots) (C .few-knots) e
+  where
+    go : (b : Bool) (ks : List Float) → 2 ≤ length ks → length ks ≤ 128 → rangeFits b (boundsIn b (l .degree) ks (l .mults)) lo hi ≡ true → countIn lo hi (unrolledOf b ks) ≤ 255
+    go false ks two few e = few-open lo hi ks few
+    go true [] two few e = absurd (omega arith)
+    go true (k ∷ ks) two few e = few-closed lo hi k ks few (starts (boundsIn true (l .degree) (k ∷ ks) (l .mults)) lo hi e)
+
+pub few-pieces : (q : Question) → admitOf (q .line1) ≡ Admitted → admitOf (q .line2) ≡ Admitted → isFine (askOf q) ≡ true
+    → (pieceCount (q .line1) (q .lo1) (q .hi1) ≤ 255) × (pieceCount (q .line2) (q .lo2) (q .hi2) ≤ 255)
+unfolding askWithin
+few-pieces q a1 a2 e =
+    let a = passed (not (rangeFits (q .line1 .closed) (boundsOf (q .line1)) (q .lo1) (q .hi1))) (RangeOutOfBounds 1) _ refl e in
+    let b = passed (not (rangeFits (q .line2 .closed) (boundsOf (q .line2)) (q .lo2) (q .hi2))) (RangeOutOfBounds 2) _ refl (a .1) in
+    (line-few (q .line1) (q .lo1) (q .hi1) a1 (not-false _ (a .0)), line-few (q .line2) (q .lo2) (q .hi2) a2 (not-false _ (b .0)))

@@ -10,9 +10,9 @@ use lib.Ieee.{Float, nan}
 use Rattle.lists.specs.Parts.{patch, joined}
 use Rattle.floats.specs.Stations.{Piece, piecesFrom}
 use Rattle.boxes.specs.Boxes.{boxesApart}
-use Rattle.knots.specs.Knots.{between, flatOf, breaksOf}
+use Rattle.knots.specs.Knots.{between, flatOf, knotsOf, breaksOf}
 use Rattle.pieces.specs.Pieces.{netOf}
-use Rattle.curves.specs.Curves.{pieceCount, polesOf, piecesOf, cutsFrom, cutsOf}
+use Rattle.curves.specs.Curves.{pieceCount, netPoles, piecesOf, cutsFrom, cutsOf}
 use Rattle.curves.proofs.Laws.{piece-at}
 use Rattle.lines.specs.Lines.{Line, Question}
 use Rattle.pairs.specs.Pairs.{Pair, Pieces, pieces, netAt, boxAt, rowFrom, pairsFrom, nets1Of, nets2Of, rangesOf, depthsOf}
@@ -33,20 +33,20 @@ indexed-same f g zero i h = refl
 indexed-same f g (suc n) i h = λ k. h i (omega arith) k ∷ indexed-same f g n (suc i) (λ j l. h j (omega arith)) k
 
 -- piece i of the breaks L
-abbrev pieceOf : ℕ → List Float → List Float → List Float → List Float → ℕ → Piece
-pieceOf p knots flat poles L i = record { lo = getD L i nan; hi = getD L (suc i) nan; net = netOf p knots flat poles (getD L i nan) (getD L (suc i) nan) }
+abbrev pieceOf : Bool → ℕ → List Float → List Float → List Float → List Float → ℕ → Piece
+pieceOf closed p knots flat poles L i = record { lo = getD L i nan; hi = getD L (suc i) nan; net = netOf closed p knots flat poles (getD L i nan) (getD L (suc i) nan) }
 
-shift : (p : ℕ) (knots flat poles : List Float) (t : Float) (L : List Float) (n i : ℕ)
-    → indexed (pieceOf p knots flat poles (t ∷ L)) n (suc i) ≡ indexed (pieceOf p knots flat poles L) n i
-shift p knots flat poles t L zero i = refl
-shift p knots flat poles t L (suc n) i = ap (λ (l : List Piece). pieceOf p knots flat poles L i ∷ l) (shift p knots flat poles t L n (suc i))
+shift : (closed : Bool) (p : ℕ) (knots flat poles : List Float) (t : Float) (L : List Float) (n i : ℕ)
+    → indexed (pieceOf closed p knots flat poles (t ∷ L)) n (suc i) ≡ indexed (pieceOf closed p knots flat poles L) n i
+shift closed p knots flat poles t L zero i = refl
+shift closed p knots flat poles t L (suc n) i = ap (λ (l : List Piece). pieceOf closed p knots flat poles L i ∷ l) (shift closed p knots flat poles t L n (suc i))
 
-chained : (p : ℕ) (knots flat poles : List Float) (t : Float) (ts : List Float)
-    → piecesFrom t (cutsFrom p knots flat poles t ts) ≡ indexed (pieceOf p knots flat poles (t ∷ ts)) (length ts) 0
+chained : (closed : Bool) (p : ℕ) (knots flat poles : List Float) (t : Float) (ts : List Float)
+    → piecesFrom t (cutsFrom closed p knots flat poles t ts) ≡ indexed (pieceOf closed p knots flat poles (t ∷ ts)) (length ts) 0
 unfolding cutsFrom
-chained p knots flat poles t [] = refl
-chained p knots flat poles t (t1 ∷ ts) =
-    ap (λ (l : List Piece). pieceOf p knots flat poles (t ∷ t1 ∷ ts) 0 ∷ l) (chained p knots flat poles t1 ts ∙ sym (shift p knots flat poles t (t1 ∷ ts) (length ts) 0))
+chained closed p knots flat poles t [] = refl
+chained closed p knots flat poles t (t1 ∷ ts) =
+    ap (λ (l : List Piece). pieceOf closed p knots flat poles (t ∷ t1 ∷ ts) 0 ∷ l) (chained closed p knots flat poles t1 ts ∙ sym (shift closed p knots flat poles t (t1 ∷ ts) (length ts) 0))
 
 -- ---- one line's pieces, read from the slice that holds them
 abbrev pub linePieces : Line → Float → Float → List Float → Pieces
@@ -57,19 +57,19 @@ slotPiece p i = record { lo = getD (p .breaks) i nan; hi = getD (p .breaks) (suc
 
 line-pieces : (l : Line) (lo hi : Float) (p : List Float) → piecesFrom lo (cutsOf l lo hi) ≡ indexed (slotPiece (linePieces l lo hi p)) (pieceCount l lo hi) 0
 line-pieces l lo hi p =
-    let ts = between lo hi (l .knots) (hi ∷ []) in
+    let ts = between lo hi (knotsOf l) (hi ∷ []) in
     let flat = flatOf l in
-    let poles = polesOf l in
+    let poles = netPoles l in
     let n : length (lo ∷ ts) - 1 ≡ length ts = omega arith in
-    chained (l .degree) (l .knots) flat poles lo ts
-    ∙ indexed-same (pieceOf (l .degree) (l .knots) flat poles (lo ∷ ts)) (slotPiece (linePieces l lo hi p)) (length ts) 0
+    chained (l .closed) (l .degree) (knotsOf l) flat poles lo ts
+    ∙ indexed-same (pieceOf (l .closed) (l .degree) (knotsOf l) flat poles (lo ∷ ts)) (slotPiece (linePieces l lo hi p)) (length ts) 0
     (λ j h. λ i. record {
       lo = getD (lo ∷ ts) j nan;
       hi = getD (lo ∷ ts) (suc j) nan;
       net =
           sym (piece-at l lo hi (drop (0 + length (piecesOf l lo hi)) p) j
           (let g : j + 1 < length (lo ∷ ts) = omega arith in g)
-          ∙ (let e = add-one j in ap (λ (k : ℕ). netOf (l .degree) (l .knots) flat poles (getD (lo ∷ ts) j nan) (getD (lo ∷ ts) k nan)) e)) i;
+          ∙ (let e = add-one j in ap (λ (k : ℕ). netOf (l .closed) (l .degree) (knotsOf l) flat poles (getD (lo ∷ ts) j nan) (getD (lo ∷ ts) k nan)) e)) i;
     })
     ∙ ap (λ (k : ℕ). indexed (slotPiece (linePieces l lo hi p)) k 0) (sym n)
 

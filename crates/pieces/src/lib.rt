@@ -10,7 +10,7 @@ fn span_bezier(flat: &[f64], poles: &[f64], p: usize, v: f64, out: &mut [f64])
     requires { ⌜ (1 ≤ p)
         × (p ≤ 25)
         × (2 * p + 2 ≤ length (now flat))
-        × (length (now flat) ≤ 154)
+        × (length (now flat) ≤ 179)
         × (4 * (length (now flat) - (p + 1)) ≤ length (now poles))
         × (length (now out) ≡ 4 * (p + 1)) ⌝ }
     ensures { λ r. ⌜ now (out .exit) ≡ spanBezier p (now (flat .entry)) (now (poles .entry)) v ⌝ }
@@ -31,18 +31,27 @@ fn share_of(a: f64, b: f64, t: f64) -> f64
 }
 
 // The net of the piece from `t0` to `t1`.
-fn net(knots: &[f64], flat: &[f64], poles: &[f64], p: usize, t0: f64, t1: f64, out: &mut [f64])
+fn net(
+    closed: bool,
+    knots: &[f64],
+    flat: &[f64],
+    poles: &[f64],
+    p: usize,
+    t0: f64,
+    t1: f64,
+    out: &mut [f64],
+)
     requires { ⌜ (1 ≤ p)
         × (p ≤ 25)
         × (2 * p + 2 ≤ length (now flat))
-        × (length (now flat) ≤ 154)
+        × (length (now flat) ≤ 179)
         × (4 * (length (now flat) - (p + 1)) ≤ length (now poles))
         × (length (now out) ≡ 4 * (p + 1))
         × (2 ≤ length (now knots)) ⌝ }
-    ensures { λ r. ⌜ now (out .exit) ≡ netOf p (now (knots .entry)) (now (flat .entry)) (now (poles .entry)) t0 t1 ⌝ }
+    ensures { λ r. ⌜ now (out .exit) ≡ netOf closed p (now (knots .entry)) (now (flat .entry)) (now (poles .entry)) t0 t1 ⌝ }
 {
     let middle = floats::mean(t0, t1);
-    span_bezier(flat, poles, p, middle, out);
+    span_bezier(flat, poles, p, spans::place(closed, knots, middle), out);
     let around = spans::span_around(knots, middle);
     let f0 = share_of(around.lo, around.hi, t0);
     let f1 = share_of(around.lo, around.hi, t1);
@@ -50,16 +59,24 @@ fn net(knots: &[f64], flat: &[f64], poles: &[f64], p: usize, t0: f64, t1: f64, o
 }
 
 // The net of each piece, one after the other from the front of `out`.
-pub fn nets(knots: &[f64], flat: &[f64], poles: &[f64], p: usize, breaks: &[f64], out: &mut [f64])
+pub fn nets(
+    closed: bool,
+    knots: &[f64],
+    flat: &[f64],
+    poles: &[f64],
+    p: usize,
+    breaks: &[f64],
+    out: &mut [f64],
+)
     requires { ⌜ (1 ≤ p)
         × (p ≤ 25)
         × (2 * p + 2 ≤ length (now flat))
-        × (length (now flat) ≤ 154)
+        × (length (now flat) ≤ 179)
         × (4 * (length (now flat) - (p + 1)) ≤ length (now poles))
         × (2 ≤ length (now knots)) ⌝ }
-    requires { ⌜ (2 ≤ length (now breaks)) × (length (now breaks) ≤ 130) × ((length (now breaks) - 1) * (4 * (p + 1)) ≤ length (now out)) ⌝ }
+    requires { ⌜ (2 ≤ length (now breaks)) × (length (now breaks) ≤ 257) × ((length (now breaks) - 1) * (4 * (p + 1)) ≤ length (now out)) ⌝ }
     ensures { λ r. ⌜ now (out .exit)
-        ≡ patch (now (out .entry)) 0 (netsOf p (now (knots .entry)) (now (flat .entry)) (now (poles .entry)) (now (breaks .entry))) ⌝ }
+        ≡ patch (now (out .entry)) 0 (netsOf closed p (now (knots .entry)) (now (flat .entry)) (now (poles .entry)) (now (breaks .entry))) ⌝ }
 {
     let len = 4 * (p + 1);
     let mut i = 0;
@@ -67,6 +84,7 @@ pub fn nets(knots: &[f64], flat: &[f64], poles: &[f64], p: usize, breaks: &[f64]
         let from = i * len;
         let to = from + len;
         net(
+            closed,
             knots,
             flat,
             poles,

@@ -3,6 +3,7 @@
 // A line is five words (degree, counts of knots, multiplicities, coordinates, weights), the knots, coordinates, weights, lo and hi as floats,
 // and the multiplicities as words; a question is two lines, the gap and S. Words have 32 bits, floats 64, low byte first.
 ghost use mathlib.Core.Path.{_≡_};
+ghost use mathlib.Core.Bool.{false};
 ghost use Prim.Native.Nat.{_+_, _*_, _<_, _≤_, _^_};
 ghost use lib.ListN.{length};
 ghost use Rattle.lines.specs.declared.Admission.the-variants.{Admitted};
@@ -95,11 +96,11 @@ fn mult_room() -> [u32; 400]
     [0u32; 400]
 }
 
-// Room for 129 nets of 26 points.
-fn net_room() -> [f64; 13416]
-    ensures { λ r. ⌜ length r ≡ 13416 ⌝ }
+// Room for 256 nets of 26 points.
+fn net_room() -> [f64; 26624]
+    ensures { λ r. ⌜ length r ≡ 26624 ⌝ }
 {
-    [0.0f64; 13416]
+    [0.0f64; 26624]
 }
 
 fn all_fit(k: usize, m: usize, c: usize, w: usize) -> bool {
@@ -251,7 +252,7 @@ fn print_net(line: u64, number: u64, net: &[f64]) {
 }
 
 fn print_nets(line: u64, n: usize, width: usize, nets: &[f64])
-    requires { ⌜ (width ≤ 26) × (n ≤ 129) × (n * (4 * width) ≤ length (now nets)) ⌝ }
+    requires { ⌜ (width ≤ 26) × (n ≤ 256) × (n * (4 * width) ≤ length (now nets)) ⌝ }
 {
     let mut i = 0;
     while i < n {
@@ -271,11 +272,21 @@ fn print_pieces(
     lo: f64,
     hi: f64,
 )
-    requires { ⌜ admitOf (lineOf degree (now knots) (now mults) (now coords) (now weights)) ≡ Admitted ⌝ }
+    requires { ⌜ admitOf (lineOf false degree (now knots) (now mults) (now coords) (now weights)) ≡ Admitted ⌝ }
 {
-    let n = curves::piece_count(knots, lo, hi);
+    let n = curves::piece_count(false, knots, lo, hi);
     let mut out = net_room();
-    curves::line_pieces(degree, knots, mults, coords, weights, lo, hi, &mut out);
+    curves::line_pieces(
+        false,
+        degree,
+        knots,
+        mults,
+        coords,
+        weights,
+        lo,
+        hi,
+        &mut out,
+    );
     print_nets(line, n, knots::count(degree) + 1, &out);
 }
 
@@ -297,22 +308,24 @@ fn answer(
     gap: f64,
     splits: u32,
 ) {
-    let a = lines::admit(degree1, knots1, mults1, coords1, weights1);
+    let a = lines::admit(false, degree1, knots1, mults1, coords1, weights1);
     let Admission::Admitted = a else {
         print_refusal(lines::admission_number(a), 1);
         return;
     };
-    let b = lines::admit(degree2, knots2, mults2, coords2, weights2);
+    let b = lines::admit(false, degree2, knots2, mults2, coords2, weights2);
     let Admission::Admitted = b else {
         print_refusal(lines::admission_number(b), 2);
         return;
     };
     let q = questions::ask(
+        false,
         degree1,
         knots1,
         mults1,
         lo1,
         hi1,
+        false,
         degree2,
         knots2,
         mults2,

@@ -98,11 +98,13 @@ fn region_room() -> [f64; 8190]
 // The opening on the lent memory, the search and its report.
 fn answer_lines(
     q: Question,
+    closed1: bool,
     degree1: u32,
     knots1: &[f64],
     mults1: &[u32],
     coords1: &[f64],
     weights1: &[f64],
+    closed2: bool,
     degree2: u32,
     knots2: &[f64],
     mults2: &[u32],
@@ -111,8 +113,8 @@ fn answer_lines(
     out: &mut [u8],
 ) -> usize
     requires { ⌜ 145169 ≤ length (now out) ⌝ }
-    ensures { λ r. ⌜ (let l1 = lineOf degree1 (now (knots1 .entry)) (now (mults1 .entry)) (now (coords1 .entry)) (now (weights1 .entry)) in
-        let l2 = lineOf degree2 (now (knots2 .entry)) (now (mults2 .entry)) (now (coords2 .entry)) (now (weights2 .entry)) in
+    ensures { λ r. ⌜ (let l1 = lineOf closed1 degree1 (now (knots1 .entry)) (now (mults1 .entry)) (now (coords1 .entry)) (now (weights1 .entry)) in
+        let l2 = lineOf closed2 degree2 (now (knots2 .entry)) (now (mults2 .entry)) (now (coords2 .entry)) (now (weights2 .entry)) in
         Wrote (now (out .entry)) 0 (linesText (questionOf q l1 l2)) (now (out .exit)) r) ⌝ }
 {
     let mut pieces1 = piece_room();
@@ -125,11 +127,13 @@ fn answer_lines(
     let mut list = region_room();
     match opening::open(
         q,
+        closed1,
         degree1,
         knots1,
         mults1,
         coords1,
         weights1,
+        closed2,
         degree2,
         knots2,
         mults2,
@@ -196,6 +200,7 @@ fn question_at(s: &[u8], at: usize, splits: u32) -> Question
 fn answer_second(
     s: &[u8],
     q: Question,
+    closed1: bool,
     degree1: u32,
     knots1: &[f64],
     mults1: &[u32],
@@ -205,7 +210,7 @@ fn answer_second(
     out: &mut [u8],
 ) -> usize
     requires { ⌜ (145169 ≤ length (now out)) × (length (now s) ≤ 16384) × LineInside (length (now s)) l ⌝ }
-    ensures { λ r. ⌜ (let l1 = lineOf degree1 (now (knots1 .entry)) (now (mults1 .entry)) (now (coords1 .entry)) (now (weights1 .entry)) in
+    ensures { λ r. ⌜ (let l1 = lineOf closed1 degree1 (now (knots1 .entry)) (now (mults1 .entry)) (now (coords1 .entry)) (now (weights1 .entry)) in
         let l2 = lineIn (now (s .entry)) l in
         Wrote (now (out .entry)) 0 (linesText (questionOf q l1 l2)) (now (out .exit)) r) ⌝ }
 {
@@ -220,11 +225,13 @@ fn answer_second(
     let w = l.weights.count;
     answer_lines(
         q,
+        closed1,
         degree1,
         knots1,
         mults1,
         coords1,
         weights1,
+        l.closed,
         l.degree,
         &knots[..k],
         &mults[..m],
@@ -253,6 +260,7 @@ fn answer_first(s: &[u8], q: Question, l: Line, second: Line, out: &mut [u8]) ->
     answer_second(
         s,
         q,
+        l.closed,
         l.degree,
         &knots[..k],
         &mults[..m],

@@ -2,7 +2,7 @@
 ghost use mathlib.Core.Path.{_≡_};
 ghost use Prim.Native.Nat.{_+_, _-_, _*_, _≤_, _<_};
 ghost use lib.ListN.{length};
-ghost use Rattle.spans.specs.Spans.{clampOf, reachOf, backOf, spanOf, passedOf, spanEnd, spanAround};
+ghost use Rattle.spans.specs.Spans.{clampOf, reachOf, backOf, spanOf, passedOf, spanEnd, spanAround, startUnless, inPeriod, turnOf, turnSpan, placeOf};
 
 // `u`, or the end of the range that it lies beyond, as by Rust's `f64::clamp`.
 pub fn clamp(u: f64, lo: f64, hi: f64) -> f64
@@ -97,4 +97,50 @@ pub fn span_around(knots: &[f64], t: f64) -> points::Interval
         lo: knots[j - 1],
         hi: knots[j],
     }
+}
+
+// `x`, or `a` where it leaves [a, b).
+fn start_unless(a: f64, b: f64, x: f64) -> f64
+    ensures { λ r. ⌜ r ≡ startUnless a b x ⌝ }
+{
+    if a <= x {
+        if x < b {
+            return x;
+        }
+        return a;
+    }
+    a
+}
+
+// `u` moved into the period from `first` to `last`; `first` where the rounded result leaves it.
+fn in_period(u: f64, first: f64, last: f64) -> f64
+    ensures { λ r. ⌜ r ≡ inPeriod first last u ⌝ }
+{
+    let period = last - first;
+    start_unless(
+        first,
+        last,
+        u - period * floats::floor((u - first) / period),
+    )
+}
+
+// The number, in the first turn, of the knot that opens the span of `t`.
+fn turn_span(knots: &[f64], t: f64) -> usize
+    requires { ⌜ 2 ≤ length (now knots) ⌝ }
+    ensures { λ r. ⌜ (r ≡ turnSpan (now (knots .entry)) t) × (r < turnOf (now (knots .entry))) ⌝ }
+{
+    (span_end(knots, t) - 1) % (knots.len() / 2)
+}
+
+// Where the net of a piece around `t` is made, the knots being a line's, unrolled: at `t`, and on a closed line at `t` moved into the period, in the span that `t` lies in.
+pub fn place(closed: bool, knots: &[f64], t: f64) -> f64
+    requires { ⌜ 2 ≤ length (now knots) ⌝ }
+    ensures { λ r. ⌜ r ≡ placeOf closed (now (knots .entry)) t ⌝ }
+{
+    if !closed {
+        return t;
+    }
+    let i = turn_span(knots, t);
+    let u = in_period(t, knots[0], knots[knots.len() / 2]);
+    start_unless(knots[i], knots[i + 1], u)
 }

@@ -48,7 +48,7 @@ pub enum Top {
 
 // The state of a fresh search of so many pairs.
 pub fn fresh(pairs: usize, splits: u32, w1: usize, w2: usize, gap: f64) -> State
-    requires { ⌜ (pairs ≤ 16641) × (splits ≤ 256) × (w1 ≤ 26) × (w2 ≤ 26) ⌝ }
+    requires { ⌜ (pairs ≤ 65025) × (splits ≤ 256) × (w1 ≤ 26) × (w2 ≤ 26) ⌝ }
     ensures { λ r. ⌜ r ≡ firstState pairs splits w1 w2 gap ⌝ }
 {
     State {

@@ -1,5 +1,5 @@
 -- Laws of the walk: what each test at a word gives, and how parts join to lines and lines to the sheet. Assumes nothing.
-use mathlib.Core.Path.{_≡_, refl, sym, _∙_}
+use mathlib.Core.Path.{_≡_, refl, sym, ap, _∙_, subst}
 use mathlib.Core.Bool.{Bool, true, false, cond, not}
 use mathlib.Core.List.{List}
 use Prim.Native.Nat.{ℕ, zero, suc, _+_, _-_, _≤_, _<_}
@@ -8,7 +8,7 @@ use lib.Dec.{eqb, eqb·suc-zero}
 use lib.ListN.{length}
 use borrow.Author.Tests.{lt-ltb, le-ltb, eq-eqb, ne-eqb}
 use Rattle.walks.specs.Words.{wordAt, kindOf, countOf}
-use Rattle.walks.specs.Sheets.{Walked, walked, refusedAs, badLength, badCount, sizeOf, partOf, weightsOf, lineAfter, walkOf}
+use Rattle.walks.specs.Sheets.{Walked, walked, refusedAs, badLength, badCount, sizeOf, partOf, wordStands, weightsOf, lineKind, lineAfter, walkOf}
 use Rattle.walks.specs.Places.{unless, lineIn, questionIn, SheetInside, PartFits, LineFits}
 use Rattle.walks.specs.declared.Part.{Part}
 use Rattle.walks.specs.declared.Line.{Line}
@@ -49,19 +49,25 @@ module _ (s : List ℕ) (kind at : ℕ) where
         unfolding partOf
         found l go = rw (← is, ← size) (simp (le-ltb (length s) (at + 4) (omega arith), eq-eqb (kindOf w) kind same, good, le-ltb (length s) (at + 4 + r) (omega arith)))
 
+-- ---- a word of this kind stands there, or another, or none
+module _ (s : List ℕ) (kind at : ℕ) where
+  pub word-left : (w : ℕ) → w ≡ wordAt s at → 4 ≤ length s - at → eqb (kindOf w) kind ≡ wordStands s kind at
+  unfolding wordStands
+  word-left w is h = rw (← is) (simp (le-ltb (length s) (at + 4) (omega arith)))
+
+  pub none-left : at ≤ length s → length s - at < 4 → false ≡ wordStands s kind at
+  unfolding wordStands
+  none-left h k = simp (lt-ltb (length s) (at + 4) (omega arith))
+
 -- ---- weights, there or not
-module _ (s : List ℕ) (at : ℕ) where
-  pub weights-there : (w : ℕ) → w ≡ wordAt s at → 4 ≤ length s - at → kindOf w ≡ 5 → (go : ℕ → ℕ → ℕ → Walked) → weightsOf s at go ≡ partOf s 5 at go
+module _ (s : List ℕ) (at : ℕ) {stands : Bool} (is : stands ≡ wordStands s 5 at) where
+  pub weights-there : stands ≡ true → (go : ℕ → ℕ → ℕ → Walked) → weightsOf s at go ≡ partOf s 5 at go
   unfolding weightsOf
-  weights-there w is h k go = rw (← is) (simp (le-ltb (length s) (at + 4) (omega arith), eq-eqb (kindOf w) 5 k))
+  weights-there e go = rw (← is, e) refl
 
-  pub weights-absent : (w : ℕ) → w ≡ wordAt s at → 4 ≤ length s - at → (kindOf w ≡ 5 → ⊥) → (go : ℕ → ℕ → ℕ → Walked) → weightsOf s at go ≡ go 0 at at
+  pub weights-absent : stands ≡ false → (go : ℕ → ℕ → ℕ → Walked) → weightsOf s at go ≡ go 0 at at
   unfolding weightsOf
-  weights-absent w is h k go = rw (← is) (simp (le-ltb (length s) (at + 4) (omega arith), ne-eqb (kindOf w) 5 k))
-
-  pub weights-at-end : at ≤ length s → length s - at < 4 → (go : ℕ → ℕ → ℕ → Walked) → weightsOf s at go ≡ go 0 at at
-  unfolding weightsOf
-  weights-at-end h k go = simp (lt-ltb (length s) (at + 4) (omega arith))
+  weights-absent e go = rw (← is, e) refl
 
 -- ---- a part that is refused with m, and one that is not
 module _ (s : List ℕ) (n : ℕ) (walk : (ℕ → ℕ → ℕ → Walked) → Walked) (size : ℕ → ℕ) (p : Part) where
@@ -93,21 +99,26 @@ unfolding unless
 taken-over s n walk there size p z f h = record { says = λ go. on (walk go) z ∙ f go ∙ h .says go; before = h .before; few = h .few; fits = λ e. (z, h .fits e .1) }
 
 -- ---- five parts are a line
-pub line-fits : {s : List ℕ} {n at : ℕ} {d k m p w : Part} → PartFits s n (partOf s 1 at) (sizeOf 1) d → PartFits s (d .no) (partOf s 2 (d .next)) (sizeOf 2) k
-    → PartFits s (k .no) (partOf s 3 (k .next)) (sizeOf 3) m → PartFits s (m .no) (partOf s 4 (m .next)) (sizeOf 4) p
-    → PartFits s (p .no) (weightsOf s (p .next)) (sizeOf 5) w
-    → LineFits s n at (record { no = w .no; degree = d .count; knots = k; mults = m; poles = p; weights = w; next = w .next })
+pub line-fits : {s : List ℕ} {n at kind : ℕ} {closed : Bool} {D K M P W : Part} → closed ≡ wordStands s 8 at → kind ≡ lineKind closed
+    → PartFits s n (partOf s kind at) (sizeOf kind) D → PartFits s (D .no) (partOf s 2 (D .next)) (sizeOf 2) K
+    → PartFits s (K .no) (partOf s 3 (K .next)) (sizeOf 3) M → PartFits s (M .no) (partOf s 4 (M .next)) (sizeOf 4) P
+    → PartFits s (P .no) (weightsOf s (P .next)) (sizeOf 5) W
+    → LineFits s n at (record { no = W .no; closed = closed; degree = D .count; knots = K; mults = M; poles = P; weights = W; next = W .next })
 unfolding lineAfter lineIn sizeOf
-line-fits d k m p w = record {
-  says = λ go. d .says _ ∙ k .says _ ∙ m .says _ ∙ p .says _ ∙ w .says _;
-  before = w .before;
-  fits = λ e.
-      let fw = w .fits e in
-      let fp = p .fits (fw .0) in
-      let fm = m .fits (fp .0) in
-      let fk = k .fits (fm .0) in
-      (d .fits (fk .0) .0, record { knots = fk .1; mults = fm .1; poles = fp .1; weights = fw .1 });
-}
+line-fits {s} {n} {at} {kind} {closed} {D} {K} {M} {P} {W} is opens d k m p w =
+    subst (λ c. LineFits s n at (record { no = W .no; closed = c; degree = D .count; knots = K; mults = M; poles = P; weights = W; next = W .next })) (sym is) (record {
+      says = λ go. first .says _ ∙ k .says _ ∙ m .says _ ∙ p .says _ ∙ w .says _;
+      before = w .before;
+      fits = λ e.
+          let fw = w .fits e in
+          let fp = p .fits (fw .0) in
+          let fm = m .fits (fp .0) in
+          let fk = k .fits (fm .0) in
+          (d .fits (fk .0) .0, record { knots = fk .1; mults = fm .1; poles = fp .1; weights = fw .1 });
+    })
+  where
+    first : PartFits s n (partOf s (lineKind (wordStands s 8 at)) at) (sizeOf (lineKind (wordStands s 8 at))) D
+    first = subst (λ z. PartFits s n (partOf s z at) (sizeOf z) D) (opens ∙ ap lineKind is) d
 
 -- ---- the number of the length, and of the end's place
 begin : (b : Bool) (w : Walked) {n : ℕ} → n ≡ cond b 1 0 → cond b (refusedAs 1) w ≡ unless n w

@@ -20,6 +20,7 @@ unless n w = cond (eqb n 0) w (refusedAs n)
 unfoldable pub lineIn : List ℕ → Line → given.Line
 lineIn s l =
     record {
+      closed = l .closed;
       degree = l .degree;
       knots = floatsFrom s (l .knots .at) (l .knots .count);
       mults = wordsFrom s (l .mults .at) (l .mults .count);

@@ -34,19 +34,28 @@ partOf s kind at go =
     (cond (ltb (length s) (at + 4 + sizeOf kind (countOf (wordAt s at)))) (refusedAs 3)
     (go (countOf (wordAt s at)) (at + 4) (at + 4 + sizeOf kind (countOf (wordAt s at)))))))
 
+-- a whole word is left at place `at`, and it is of this kind (`word_stands`)
+unfoldable pub wordStands : List ℕ → ℕ → ℕ → Bool
+wordStands s kind at = not (ltb (length s) (at + 4)) && eqb (kindOf (wordAt s at)) kind
+
 -- "5 weights (N floats, may be absent)": none where the next word is no weights word, or no word is left (`weights_after`)
 unfoldable pub weightsOf : List ℕ → ℕ → (ℕ → ℕ → ℕ → Walked) → Walked
-weightsOf s at go = cond (not (ltb (length s) (at + 4)) && eqb (kindOf (wordAt s at)) 5) (partOf s 5 at go) (go 0 at at)
+weightsOf s at go = cond (wordStands s 5 at) (partOf s 5 at go) (go 0 at at)
 
--- "In order: 1 line (N the degree); 2 knots; 3 multiplicities; 4 poles; 5 weights", from place `at` on (`line_after`); `go` is what follows, given the line and the place behind it
+-- the kind of the word that opens a closed line, and an open one (`line_kind`)
+unfoldable pub lineKind : Bool → ℕ
+lineKind closed = cond closed 8 1
+
+-- "In order: 1 line (N the degree); 2 knots; 3 multiplicities; 4 poles; 5 weights", from place `at` on (`line_after`); `go` is what follows, given the line and the place behind it.
+-- "A sheet may give kind 8 in the place of kind 1, its count the degree": a line is closed where a word of kind 8 stands; else 1 is due.
 unfoldable pub lineAfter : List ℕ → ℕ → (Line → ℕ → Walked) → Walked
 lineAfter s at go =
-    partOf s 1 at (λ degree here a.
+    partOf s (lineKind (wordStands s 8 at)) at (λ degree here a.
     partOf s 2 a (λ k knots b.
     partOf s 3 b (λ m mults c.
     partOf s 4 c (λ p poles d.
     weightsOf s d (λ w weights e.
-    go (record { degree = degree; knots = floatsFrom s knots k; mults = wordsFrom s mults m; coords = floatsFrom s poles (3 * p); weights = floatsFrom s weights w }) e)))))
+    go (record { closed = wordStands s 8 at; degree = degree; knots = floatsFrom s knots k; mults = wordsFrom s mults m; coords = floatsFrom s poles (3 * p); weights = floatsFrom s weights w }) e)))))
 
 -- The length, the first line, "the second line likewise; 6 question (N is S; then lo, hi, lo, hi, gap as floats); 7 end"; 3 where "words follow the end" (`walk`)
 unfoldable pub walkOf : List ℕ → Walked

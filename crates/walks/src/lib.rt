@@ -6,7 +6,7 @@ ghost use lib.Dec.{eqb};
 ghost use lib.ListN.{length};
 ghost use Rattle.lists.specs.Parts.{patch};
 ghost use Rattle.walks.specs.Words.{wordAt, floatAt, wordsFrom, floatsFrom};
-ghost use Rattle.walks.specs.Sheets.{walked, badCount, badLength, sizeOf, partOf, weightsOf, walkOf};
+ghost use Rattle.walks.specs.Sheets.{walked, badCount, badLength, sizeOf, partOf, wordStands, weightsOf, lineKind, walkOf};
 ghost use Rattle.walks.specs.Places.{unless, questionIn, LineInside, PartFits, LineFits, SheetInside};
 
 // A counted part: the number that refuses the sheet or 0, the count in its word, where it starts, and the place behind it.
@@ -20,6 +20,7 @@ pub struct Part {
 // The parts of a line.
 pub struct Line {
     pub no: u8,
+    pub closed: bool,
     pub degree: u32,
     pub knots: Part,
     pub mults: Part,
@@ -176,6 +177,17 @@ fn part_after(s: &[u8], no: u8, at: usize, kind: u32) -> Part
     }
 }
 
+// Whether a word of this kind stands at `at`.
+fn word_stands(s: &[u8], kind: u32, at: usize) -> bool
+    requires { ⌜ at ≤ length (now s) ⌝ }
+    ensures { λ r. ⌜ r ≡ wordStands (now (s .entry)) kind at ⌝ }
+{
+    if s.len() - at < 4 {
+        return false;
+    }
+    word(s, at) / 268435456 == kind
+}
+
 // The weights at `at`, an empty part where another word stands.
 fn weights_after(s: &[u8], no: u8, at: usize) -> Part
     requires { ⌜ at ≤ length (now s) ⌝ }
@@ -184,10 +196,8 @@ fn weights_after(s: &[u8], no: u8, at: usize) -> Part
     if no != 0 {
         return no_part(no);
     }
-    if s.len() - at >= 4 {
-        if word(s, at) / 268435456 == 5 {
-            return part_after(s, 0, at, 5);
-        }
+    if word_stands(s, 5, at) {
+        return part_after(s, 0, at, 5);
     }
     Part {
         no: 0,
@@ -197,18 +207,30 @@ fn weights_after(s: &[u8], no: u8, at: usize) -> Part
     }
 }
 
+// The kind of the word that opens a line.
+fn line_kind(closed: bool) -> u32
+    ensures { λ r. ⌜ r ≡ lineKind closed ⌝ }
+{
+    if closed {
+        return 8;
+    }
+    1
+}
+
 // The line at `at`, unless the sheet was refused before.
 fn line_after(s: &[u8], no: u8, at: usize) -> Line
     requires { ⌜ at ≤ length (now s) ⌝ }
     ensures { λ r. ⌜ LineFits (now (s .entry)) no at r ⌝ }
 {
-    let degree = part_after(s, no, at, 1);
+    let closed = word_stands(s, 8, at);
+    let degree = part_after(s, no, at, line_kind(closed));
     let knots = part_after(s, degree.no, degree.next, 2);
     let mults = part_after(s, knots.no, knots.next, 3);
     let poles = part_after(s, mults.no, mults.next, 4);
     let weights = weights_after(s, poles.no, poles.next);
     Line {
         no: weights.no,
+        closed,
         degree: degree.count as u32,
         knots,
         mults,

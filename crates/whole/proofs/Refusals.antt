@@ -2,7 +2,7 @@
 use mathlib.Core.Path.{_≡_, refl, sym, ap, _∙_, subst}
 use mathlib.Core.Logic.{inl, inr, _↔_}
 use mathlib.Core.List.{List, [], _∷_}
-use mathlib.Core.Bool.{Bool, true, false, not, _&&_, cond, false≢true}
+use mathlib.Core.Bool.{Bool, true, false, not, cond, false≢true}
 use Prim.Native.Nat.{ℕ, zero, suc, _+_, _<_}
 use borrow.Author.Tests.{ne-eqb}
 use native.Mathlib.Omega.{arith}
@@ -25,7 +25,7 @@ use Rattle.opening.specs.Asked.{start, stateOf, openMemory}
 use Rattle.opening.specs.Opens.{searchFor, isAdmitted, isFine, piecesFit, piecesIn, Pushing, pushing, Opening, opening, openDef}
 use Rattle.opening.proofs.Laws.{is-admitted}
 use Rattle.walks.specs.Words.{wordAt, kindOf, countOf}
-use Rattle.walks.specs.Sheets.{Walked, walked, refusedAs, badLength, badCount, sizeOf, partOf, weightsOf, lineAfter, walkOf}
+use Rattle.walks.specs.Sheets.{Walked, walked, refusedAs, badLength, badCount, sizeOf, partOf, wordStands, weightsOf, lineKind, lineAfter, walkOf}
 use Rattle.printing.specs.Printed.{refusalLine}
 use Rattle.sheet.specs.Answers.{zeros, lent, openedText, linesText, walkedText, answerOf}
 use Rattle.whole.specs.Refusals.{OneOf, Numbered, GoodLine, GoodQuestion, Short, Faultless, Fault, inSheet, inFirst, inSecond, inQuestion, inMemory, FaultPrinted}
@@ -53,7 +53,7 @@ module _ (s : List ℕ) where
 
   few-weights : (at : ℕ) (go : ℕ → ℕ → ℕ → Walked) → ((a b c : ℕ) → Few (go a b c)) → Few (weightsOf s at go)
   unfolding weightsOf
-  few-weights at go f = by (not (ltb (length s) (at + 4)) && eqb (kindOf (wordAt s at)) 5)
+  few-weights at go f = by (wordStands s 5 at)
     where
       by : (b : Bool) → Few (cond b (partOf s 5 at go) (go 0 at at))
       by true = few-part 5 at go f
@@ -61,7 +61,7 @@ module _ (s : List ℕ) where
 
   few-line : (at : ℕ) (go : Line → ℕ → Walked) → ((l : Line) (n : ℕ) → Few (go l n)) → Few (lineAfter s at go)
   unfolding lineAfter
-  few-line at go f = few-part 1 at _ (λ a b c. few-part 2 c _ (λ d e g. few-part 3 g _ (λ h i j. few-part 4 j _ (λ k l m. few-weights m _ (λ n o p. f _ p)))))
+  few-line at go f = few-part (lineKind (wordStands s 8 at)) at _ (λ a b c. few-part 2 c _ (λ d e g. few-part 3 g _ (λ h i j. few-part 4 j _ (λ k l m. few-weights m _ (λ n o p. f _ p)))))
 
   few-walk : Few (walkOf s)
   unfolding walkOf
@@ -83,7 +83,7 @@ walk-number n (inr (inl e)) = inr (inl e)
 walk-number n (inr (inr (inl e))) = inr (inr (inl e))
 
 abbrev lineNumbers : List ℕ
-lineNumbers = 4 ∷ 5 ∷ 6 ∷ 7 ∷ 8 ∷ 9 ∷ 10 ∷ 11 ∷ 12 ∷ 13 ∷ 14 ∷ 15 ∷ 18 ∷ []
+lineNumbers = 4 ∷ 5 ∷ 6 ∷ 7 ∷ 22 ∷ 8 ∷ 9 ∷ 10 ∷ 11 ∷ 12 ∷ 13 ∷ 14 ∷ 15 ∷ 18 ∷ []
 
 line-number : (n : ℕ) (l : Line) → LineFault n l → OneOf lineNumbers n
 line-number n l (inl x) = inl (sym (x .0))
@@ -96,7 +96,8 @@ line-number n l (inr (inr (inr (inr (inr (inr (inl x))))))) = inr (inr (inr (inr
 line-number n l (inr (inr (inr (inr (inr (inr (inr (inl x)))))))) = inr (inr (inr (inr (inr (inr (inr (inl (sym (x .0)))))))))
 line-number n l (inr (inr (inr (inr (inr (inr (inr (inr (inl x))))))))) = inr (inr (inr (inr (inr (inr (inr (inr (inl (sym (x .0))))))))))
 line-number n l (inr (inr (inr (inr (inr (inr (inr (inr (inr (inl x)))))))))) = inr (inr (inr (inr (inr (inr (inr (inr (inr (inl (sym (x .0)))))))))))
-line-number n l (inr (inr (inr (inr (inr (inr (inr (inr (inr (inr x)))))))))) = inr (inr (inr (inr (inr (inr (inr (inr (inr (inr (inl (sym (x .0))))))))))))
+line-number n l (inr (inr (inr (inr (inr (inr (inr (inr (inr (inr (inl x))))))))))) = inr (inr (inr (inr (inr (inr (inr (inr (inr (inr (inl (sym (x .0))))))))))))
+line-number n l (inr (inr (inr (inr (inr (inr (inr (inr (inr (inr (inr x))))))))))) = inr (inr (inr (inr (inr (inr (inr (inr (inr (inr (inr (inl (sym (x .0)))))))))))))
 
 fst-of : (m n : ℕ × ℕ) → m ≡ n → n .0 ≡ m .0
 fst-of m n e = sym (ap (λ (p : ℕ × ℕ). p .0) e)
@@ -106,15 +107,15 @@ snd-of m n e = sym (ap (λ (p : ℕ × ℕ). p .1) e)
 
 question-number : (n place : ℕ) (q : Question) → QuestionFault (n, place) q → Numbered n place
 question-number n place q (inl x) =
-    inr (inl (snd-of (15, 1) (n, place) (x .0)), inr (inr (inr (inr (inr (inr (inr (inr (inr (inr (inr (inl (fst-of (15, 1) (n, place) (x .0))))))))))))))
+    inr (inl (snd-of (15, 1) (n, place) (x .0)), inr (inr (inr (inr (inr (inr (inr (inr (inr (inr (inr (inr (inl (fst-of (15, 1) (n, place) (x .0)))))))))))))))
 question-number n place q (inr (inl x)) =
-    inr (inr (inl (snd-of (15, 2) (n, place) (x .0))), inr (inr (inr (inr (inr (inr (inr (inr (inr (inr (inr (inl (fst-of (15, 2) (n, place) (x .0))))))))))))))
+    inr (inr (inl (snd-of (15, 2) (n, place) (x .0))), inr (inr (inr (inr (inr (inr (inr (inr (inr (inr (inr (inr (inl (fst-of (15, 2) (n, place) (x .0)))))))))))))))
 question-number n place q (inr (inr (inl x))) = inl (snd-of (16, 0) (n, place) (x .0), inr (inr (inr (inl (fst-of (16, 0) (n, place) (x .0))))))
 question-number n place q (inr (inr (inr (inl x)))) = inl (snd-of (17, 0) (n, place) (x .0), inr (inr (inr (inr (inl (fst-of (17, 0) (n, place) (x .0)))))))
 question-number n place q (inr (inr (inr (inr (inl x))))) =
-    inr (inl (snd-of (18, 1) (n, place) (x .0)), inr (inr (inr (inr (inr (inr (inr (inr (inr (inr (inr (inr (inl (fst-of (18, 1) (n, place) (x .0)))))))))))))))
+    inr (inl (snd-of (18, 1) (n, place) (x .0)), inr (inr (inr (inr (inr (inr (inr (inr (inr (inr (inr (inr (inr (inl (fst-of (18, 1) (n, place) (x .0))))))))))))))))
 question-number n place q (inr (inr (inr (inr (inr x))))) =
-    inr (inr (inl (snd-of (18, 2) (n, place) (x .0))), inr (inr (inr (inr (inr (inr (inr (inr (inr (inr (inr (inr (inl (fst-of (18, 2) (n, place) (x .0)))))))))))))))
+    inr (inr (inl (snd-of (18, 2) (n, place) (x .0))), inr (inr (inr (inr (inr (inr (inr (inr (inr (inr (inr (inr (inr (inl (fst-of (18, 2) (n, place) (x .0))))))))))))))))
 
 pub fault-numbered : (s : List ℕ) (n place : ℕ) → Fault s n place → Numbered n place
 fault-numbered s n place (inSheet e p) = inl (p, walk-number n (subst Few e (few-walk s)))
@@ -131,7 +132,7 @@ positive (k ∷ l) n a (inr h) = positive l n (a .1) h
 line-above : (n : ℕ) (l : Line) → LineFault n l → 0 < n
 line-above n l f =
     positive lineNumbers n
-    (lit< tt, (lit< tt, (lit< tt, (lit< tt, (lit< tt, (lit< tt, (lit< tt, (lit< tt, (lit< tt, (lit< tt, (lit< tt, (lit< tt, (lit< tt, tt)))))))))))))
+    (lit< tt, (lit< tt, (lit< tt, (lit< tt, (lit< tt, (lit< tt, (lit< tt, (lit< tt, (lit< tt, (lit< tt, (lit< tt, (lit< tt, (lit< tt, (lit< tt, tt))))))))))))))
     (line-number n l f)
 
 question-above : (n : ℕ × ℕ) (q : Question) → QuestionFault n q → 0 < n .0

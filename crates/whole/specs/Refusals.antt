@@ -17,11 +17,11 @@ use Rattle.printing.specs.Printed.{refusalLine}
 abbrev pub OneOf : List ℕ → ℕ → Type 0
 OneOf l n = Any (λ (k : ℕ). n ≡ k) l
 
--- "the number, and 1 or 2 for a line's fault, range or breaks (4 to 15 and 18), else 0"; 20 and 21 are never printed
+-- "the number, and 1 or 2 for a line's fault, range or breaks (4 to 15 and 18), else 0", and 22 "printed with its line"; 20 and 21 are never printed
 abbrev pub Numbered : ℕ → ℕ → Type 0
 Numbered n place =
     ((place ≡ 0) × OneOf (1 ∷ 2 ∷ 3 ∷ 16 ∷ 17 ∷ 19 ∷ []) n)
-    ⊎ (OneOf (1 ∷ 2 ∷ []) place × OneOf (4 ∷ 5 ∷ 6 ∷ 7 ∷ 8 ∷ 9 ∷ 10 ∷ 11 ∷ 12 ∷ 13 ∷ 14 ∷ 15 ∷ 18 ∷ []) n)
+    ⊎ (OneOf (1 ∷ 2 ∷ []) place × OneOf (4 ∷ 5 ∷ 6 ∷ 7 ∷ 22 ∷ 8 ∷ 9 ∷ 10 ∷ 11 ∷ 12 ∷ 13 ∷ 14 ∷ 15 ∷ 18 ∷ []) n)
 
 -- no row of the table is met
 abbrev pub GoodLine : Line → Type 0

@@ -22,7 +22,7 @@ mul-result c = search needs
 mul-result-2 : tie.Need-mul-result-2
 mul-result-2 c =
     let n = c .before .piece-count in
-    omega (arith, need-small (n .result) (c .count .result + 1) (n .ensures .2) (omega (arith, c .count .ensures, c .before .before .before .pre .1)))
+    omega (arith, need-small (n .result) (c .count .result + 1) (n .ensures .2) (omega (arith, c .count .ensures, c .before .before .before .pre .2)))
 
 returns : tie.Need-returns
 returns c = λ i. leb (c .before .piece-count .ensures .0 i * (4 * (c .count .ensures i + 1))) (c .before .before .before .args .room)

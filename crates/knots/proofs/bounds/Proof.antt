@@ -1,59 +1,44 @@
--- `bounds` reads both ends from the flat knots. Assumes nothing.
-use native.Mathlib.Omega.{arith}
+-- `bounds` is its definition, one case a return. Assumes nothing.
+use mathlib.Core.Path.{refl}
+use Rattle.knots.specs.Knots.{boundsIn}
 use borrow.Author.Needs.{needs}
-use Rattle.knots.proofs.Laws as laws
 use Rattle.knots.proofs.bounds.Statement.{statement}
 use Rattle.knots.proofs.bounds.Tie as tie
+use Rattle.knots.proofs.bounds.Reads as reads
+use Rattle.knots.proofs.bounds.Lts as lts
+use Rattle.knots.proofs.open_bounds.Reads as open-bounds-reads
 
-flat-room-requires : tie.Need-flat-room-requires
-flat-room-requires c κs = search needs
+shared-slice-read-t7 : tie.Need-shared-slice-read-t7
+shared-slice-read-t7 c = search needs
 
-slice-aggregate-flat-knots : tie.Need-slice-aggregate-flat-knots
-slice-aggregate-flat-knots c = search needs
+sub-t9 : tie.Need-sub-t9
+sub-t9 c = search needs
 
-flat-knots-requires : tie.Need-flat-knots-requires
-flat-knots-requires c κs = search needs
+mul-t10 : tie.Need-mul-t10
+mul-t10 c = search needs
 
-count-requires : tie.Need-count-requires
-count-requires c κs = search needs
-
-sub-last : tie.Need-sub-last
-sub-last c = search needs
-
-sub-last-2 : tie.Need-sub-last-2
-sub-last-2 c = search needs
-
-mul-t11 : tie.Need-mul-t11
-mul-t11 c = search needs
-
-array-read-t14 : tie.Need-array-read-t14
-array-read-t14 c = search needs
-
-mul-t15 : tie.Need-mul-t15
-mul-t15 c = search needs
-
-array-read-t18 : tie.Need-array-read-t18
-array-read-t18 c = search needs
+shared-slice-read-t12 : tie.Need-shared-slice-read-t12
+shared-slice-read-t12 c = search needs
 
 returns : tie.Need-returns
-returns c =
-    let a = c .before .before .before .before .before .before .before .args in
-    let m = c .before .before .flat-knots in
-    laws.bounds-are (a .degree) (a .knots .now) (a .mults .now) (m .last .1 .1 .0) (m .result) (c .count .result) (m .ensures .0) (c .count .ensures)
-    (m .ensures .2) (omega arith)
+unfolding boundsIn
+returns c = rw (c .before .before .if1 .taken) refl
+
+open-bounds-requires : tie.Need-open-bounds-requires
+open-bounds-requires c κs = search needs
+
+returns-2 : tie.Need-returns-2
+unfolding boundsIn
+returns-2 c = rw (c .before .if1 .left) (c .open-bounds .ensures)
 
 pub bounds-spec : {M : Type 1} → statement M
 bounds-spec =
     tie.close
     (tie.spec
-    flat-room-requires
-    slice-aggregate-flat-knots
-    flat-knots-requires
-    count-requires
-    sub-last
-    sub-last-2
-    mul-t11
-    array-read-t14
-    mul-t15
-    array-read-t18
-    returns)
+    shared-slice-read-t7
+    sub-t9
+    mul-t10
+    shared-slice-read-t12
+    returns
+    open-bounds-requires
+    returns-2)

@@ -2,6 +2,7 @@
 use Prim.Native.Nat.{_≤_}
 use native.Mathlib.Omega.{arith}
 use borrow.Author.Needs.{needs}
+use mathlib.Core.Bool.{false}
 use Rattle.lines.specs.Lines.{lineOf}
 use Rattle.lines.proofs.Admitted.{counts}
 use Rattle.pieces.proofs.Laws as laws
@@ -11,7 +12,8 @@ use Rattle.pieces_run.proofs.print_pieces.Tie as tie
 piece-count-requires : tie.Need-piece-count-requires
 piece-count-requires c κs =
     let args = c .before .before .before .before .args in
-    counts (lineOf (args .degree) (args .knots .now) (args .mults .now) (args .coords .now) (args .weights .now)) (c .before .before .before .before .pre) .few-knots
+    let k = counts (lineOf false (args .degree) (args .knots .now) (args .mults .now) (args .coords .now) (args .weights .now)) (c .before .before .before .before .pre) in
+    (omega (arith, k .two-knots), k .few-knots)
 
 net-room-requires : tie.Need-net-room-requires
 net-room-requires c κs = search needs
@@ -23,7 +25,7 @@ line-pieces-requires : tie.Need-line-pieces-requires
 line-pieces-requires c κs =
     let args = c .before .before .before .before .before .before .before .args in
     let pre = c .before .before .before .before .before .before .before .pre in
-    let k = counts (lineOf (args .degree) (args .knots .now) (args .mults .now) (args .coords .now) (args .weights .now)) pre in
+    let k = counts (lineOf false (args .degree) (args .knots .now) (args .mults .now) (args .coords .now) (args .weights .now)) pre in
     let n = c .before .before .piece-count in
     let s = rw (n .ensures .0) at (laws.small (n .result) (args .degree) (n .ensures .2) (k .most)) in
     (pre, omega (arith, s, c .before .net-room .ensures))
@@ -40,7 +42,7 @@ slice-aggregate-print-nets c = search needs
 print-nets-requires : tie.Need-print-nets-requires
 print-nets-requires c κs =
     let args = c .before .before .before .before .before .before .before .before .before .before .before .args in
-    let k = counts (lineOf (args .degree) (args .knots .now) (args .mults .now) (args .coords .now) (args .weights .now))
+    let k = counts (lineOf false (args .degree) (args .knots .now) (args .mults .now) (args .coords .now) (args .weights .now))
     (c .before .before .before .before .before .before .before .before .before .before .before .pre) in
     let n = c .before .before .before .before .before .before .piece-count in
     let d = c .before .count in
@@ -50,7 +52,7 @@ print-nets-requires c κs =
       omega (
         arith,
         laws.small (n .result) (d .result) (n .ensures .2) m,
-        c .before .before .before .line-pieces .kept .1 .1 .1 .1 .1 .1 .1 .0,
+        c .before .before .before .line-pieces .kept .1 .1 .1 .1 .1 .1 .1 .1 .0,
         c .before .before .before .before .before .net-room .ensures,
       ),
     )

@@ -1,8 +1,8 @@
--- Weights, by the word that stands there: refused before, a weights word, another word, or none. Assumes nothing.
+-- Weights: refused before, a weights word, or none. Assumes nothing.
 use borrow.Author.Needs.{needs}
 use native.Mathlib.Omega.{arith}
 use Rattle.walks.specs.Sheets.{partOf, weightsOf, sizeOf}
-use Rattle.walks.proofs.Walks.{before-refused, taken, taken-over, weights-there, weights-absent, weights-at-end}
+use Rattle.walks.proofs.Walks.{before-refused, taken, taken-over, weights-there, weights-absent}
 use Rattle.walks.proofs.weights_after.Statement.{statement}
 use Rattle.walks.proofs.weights_after.Tie as tie
 
@@ -14,36 +14,25 @@ returns c =
     let args = c .before .before .before .args in
     before-refused (args .s .now) (args .no) (weightsOf (args .s .now) (args .at)) (sizeOf 5) (c .no-part .result) (c .no-part .ensures) (c .before .if1 .taken)
 
-sub-if2 : tie.Need-sub-if2
-sub-if2 c = search needs
-
-word-requires : tie.Need-word-requires
-word-requires c κs = search needs
+word-stands-requires : tie.Need-word-stands-requires
+word-stands-requires c κs = search needs
 
 part-after-requires : tie.Need-part-after-requires
 part-after-requires c κs = search needs
 
 returns-2 : tie.Need-returns-2
 returns-2 c =
-    let args = c .before .before .before .before .before .before .args in
+    let args = c .before .before .before .before .before .args in
     taken-over (args .s .now) (args .no) (weightsOf (args .s .now) (args .at)) (partOf (args .s .now) 5 (args .at)) (sizeOf 5) (c .part-after .result)
-    (c .before .before .before .before .if1 .left) (weights-there (args .s .now) (args .at) (c .before .before .word .result)
-    (c .before .before .word .ensures .0) (c .before .before .before .if2 .taken) (c .before .if3 .taken)) (c .part-after .ensures)
+    (c .before .before .before .if1 .left) (weights-there (args .s .now) (args .at) (c .before .before .word-stands .ensures) (c .before .if2 .taken))
+    (c .part-after .ensures)
 
 returns-3 : tie.Need-returns-3
 unfolding sizeOf
 returns-3 c =
-    let args = c .before .before .before .before .before .args in
-    taken (args .s .now) (args .no) (weightsOf (args .s .now) (args .at)) (sizeOf 5) 0 (args .at) (args .at) (c .before .before .before .if1 .left)
-    (weights-absent (args .s .now) (args .at) (c .before .word .result) (c .before .word .ensures .0) (c .before .before .if2 .taken)
-    (c .if3 .left)) (search needs) (search needs) (omega arith)
-
-returns-4 : tie.Need-returns-4
-unfolding sizeOf
-returns-4 c =
-    let args = c .before .before .before .args in
-    taken (args .s .now) (args .no) (weightsOf (args .s .now) (args .at)) (sizeOf 5) 0 (args .at) (args .at) (c .before .if1 .left)
-    (weights-at-end (args .s .now) (args .at) (search needs) (c .if2 .left)) (search needs) (search needs) (omega arith)
+    let args = c .before .before .before .before .args in
+    taken (args .s .now) (args .no) (weightsOf (args .s .now) (args .at)) (sizeOf 5) 0 (args .at) (args .at) (c .before .before .if1 .left)
+    (weights-absent (args .s .now) (args .at) (c .before .word-stands .ensures) (c .if2 .left)) (search needs) (search needs) (omega arith)
 
 pub weights-after-spec : {M : Type 1} → statement M
 weights-after-spec =
@@ -51,9 +40,7 @@ weights-after-spec =
     (tie.spec
     no-part-requires
     returns
-    sub-if2
-    word-requires
+    word-stands-requires
     part-after-requires
     returns-2
-    returns-3
-    returns-4)
+    returns-3)
