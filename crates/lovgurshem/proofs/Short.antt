@@ -1,6 +1,5 @@
 -- An opening with too few words: every piece needs room, so an opening that is lent nothing is refused. Assumes nothing.
 use mathlib.Core.Path.{_≡_, refl, sym, ap, _∙_}
-use mathlib.Core.Logic.{inl, inr}
 use mathlib.Core.Bool.{Bool, true, false, _&&_, cond, false≢true}
 use mathlib.Core.List.{List, [], _∷_}
 use Prim.Native.Nat.{ℕ, _+_, _*_, _≤_, _<_}
@@ -10,21 +9,18 @@ use borrow.Author.Tests.{lt-leb}
 use lib.Dec.{lit≤}
 use lib.ListN.{length}
 use lib.Ieee.{Float}
-use Rattle.lines.specs.declared.Admission.{Admission}
-use Rattle.lines.specs.declared.Admission.the-variants.{Admitted, InvalidDegree, KnotCount, KnotOutOfRange, KnotsNotIncreasing, EndMultiplicitiesDiffer, MultiplicityTooLarge, ZeroMultiplicity, PoleCountMismatch, PoleCountOutOfRange, WeightCountMismatch, WeightOutOfRange, CoordinateOutOfRange}
 use Rattle.lines.specs.Admit.{admissionNumber, admitOf}
 use Rattle.lines.specs.Lines.{Question}
 use Rattle.knots.specs.Knots.{inside, between, knotsOf}
 use Rattle.curves.specs.Curves.{pieceCount}
-use Rattle.questions.specs.declared.Asked.{Asked as AskAnswer}
-use Rattle.questions.specs.declared.Asked.the-variants.{Fine, RangeOutOfBounds, GapOutOfRange, TooManySplits, BreaksTooClose}
 use Rattle.questions.specs.Questions.{askedNumber, askOf}
 use Rattle.states.specs.States.{Memory, memory}
 use Rattle.opening.specs.declared.Opened.the-variants.{BadLine, BadQuestion, NoRoom}
-use Rattle.opening.specs.Opens.{openedNumber, isAdmitted, isFine, piecesNeed, piecesFit, Opening, opening, openPieces, openDef}
+use Rattle.opening.specs.Opens.{FaultNumber, openedNumber, isAdmitted, isFine, piecesNeed, piecesFit, Opening, opening, openPieces, openDef}
+use Rattle.opening.proofs.Numbers.{not-none, bad-line, bad-question}
 use Rattle.lovgurshem.specs.Answers.{openAnswer}
 use Rattle.lovgurshem.specs.Calls.{openCall, refusalOf, callOpen}
-use Rattle.lovgurshem.specs.Short.{FaultNumber, passes, ShortState}
+use Rattle.lovgurshem.specs.Short.{passes, ShortState}
 
 -- ---- no pieces fit an empty slice
 some-between : (lo hi : Float) (ks l : List Float) → 1 ≤ length l → 1 ≤ length (between lo hi ks l)
@@ -43,29 +39,6 @@ none-fit q p =
     let b : 4 ≤ 4 * (q .line1 .degree + 1) = omega arith in
     let c : 0 < piecesNeed (q .line1) (q .lo1) (q .hi1) = let m = mul-le-mul a b in omega (arith, m) in
     rw (lt-leb _ _ c) refl
-
--- ---- the numbers of a line's and of a question's faults
-bad-line : (a : Admission) → isAdmitted a ≡ false → FaultNumber (admissionNumber a)
-bad-line Admitted e = absurd (false≢true (sym e))
-bad-line InvalidDegree e = inl (lit≤ tt, lit≤ tt)
-bad-line KnotCount e = inl (lit≤ tt, lit≤ tt)
-bad-line KnotOutOfRange e = inl (lit≤ tt, lit≤ tt)
-bad-line KnotsNotIncreasing e = inl (lit≤ tt, lit≤ tt)
-bad-line EndMultiplicitiesDiffer e = inr refl
-bad-line MultiplicityTooLarge e = inl (lit≤ tt, lit≤ tt)
-bad-line ZeroMultiplicity e = inl (lit≤ tt, lit≤ tt)
-bad-line PoleCountMismatch e = inl (lit≤ tt, lit≤ tt)
-bad-line PoleCountOutOfRange e = inl (lit≤ tt, lit≤ tt)
-bad-line WeightCountMismatch e = inl (lit≤ tt, lit≤ tt)
-bad-line WeightOutOfRange e = inl (lit≤ tt, lit≤ tt)
-bad-line CoordinateOutOfRange e = inl (lit≤ tt, lit≤ tt)
-
-bad-question : (a : AskAnswer) → isFine a ≡ false → FaultNumber (askedNumber a)
-bad-question Fine e = absurd (false≢true (sym e))
-bad-question (RangeOutOfBounds line) e = inl (lit≤ tt, lit≤ tt)
-bad-question GapOutOfRange e = inl (lit≤ tt, lit≤ tt)
-bad-question TooManySplits e = inl (lit≤ tt, lit≤ tt)
-bad-question (BreaksTooClose line) e = inl (lit≤ tt, lit≤ tt)
 
 -- ---- the opening by its four tests
 module _ (q : Question) where
@@ -101,17 +74,13 @@ module _ (q : Question) where
       go true false c d f g h e = g refl
       go false b c d f g h e = f refl
 
-  not-none : (n : ℕ) → FaultNumber n → 1 ≤ n
-  not-none n (inl h) = omega arith
-  not-none n (inr h) = omega arith
-
   -- lent nothing, no opening answers 0
   pub some-refusal : {r : ℕ} → r ≡ refusalOf q → r ≡ 0 → ⊥
   some-refusal e z = go (passes q) refl (sym (lent-nothing [] [] (memory [] [] [] [] [])) ∙ sym e ∙ z)
     where
       go : (b : Bool) → passes q ≡ b → cond b 19 (openAnswer (openDef q [] [] (memory [] [] [] [] []) .answer)) ≡ 0 → ⊥
       go true e f = omega arith
-      go false e f = let k = not-none _ (fault-number [] [] (memory [] [] [] [] []) e) in omega (arith, k, f)
+      go false e f = absurd (not-none (fault-number [] [] (memory [] [] [] [] []) e) (omega (arith, f)))
 
 pub short-state : ShortState
 unfolding callOpen

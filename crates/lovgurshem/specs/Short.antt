@@ -1,22 +1,17 @@
 -- An opening with too few words: the statement. Definitions only.
 use mathlib.Core.Path.{_≡_}
-use mathlib.Core.Logic.{_⊎_}
 use mathlib.Core.Bool.{Bool, false, _&&_, cond}
 use mathlib.Core.List.{List}
-use Prim.Native.Nat.{ℕ, _≤_, _<_}
+use Prim.Native.Nat.{ℕ, _<_}
 use lib.ListN.{length}
 use lib.Ieee.{Float}
 use Rattle.lines.specs.Lines.{Question}
 use Rattle.lines.specs.Admit.{admitOf}
 use Rattle.questions.specs.Questions.{askOf}
 use Rattle.states.specs.States.{Memory}
-use Rattle.opening.specs.Opens.{isAdmitted, isFine, openedNumber, openDef}
+use Rattle.opening.specs.Opens.{FaultNumber, isAdmitted, isFine, openedNumber, openDef}
 use Rattle.lovgurshem.specs.Answers.{openAnswer}
 use Rattle.lovgurshem.specs.Calls.{openCall, callOpen}
-
--- a number of a line's or a question's fault: 4 to 18, or 22
-abbrev pub FaultNumber : ℕ → Type 0
-FaultNumber n = ((4 ≤ n) × (n ≤ 18)) ⊎ (n ≡ 22)
 
 -- both lines and the question pass 4 to 18 and 22
 abbrev pub passes : Question → Bool
