@@ -183,6 +183,16 @@ EXAMPLES = [('example', example),
             ('track', track)]
 
 
+def basin_passed():
+    """A turning basin, closed, asked all the way round from a place inside its northern side, and a track along that side; gap 3 m (document 02, M-100)."""
+    poles = [(300, 0, -12), (210, 210, -12), (0, 300, -12), (-210, 210, -12), (-300, 0, -12), (-210, -210, -12), (0, -300, -12), (210, -210, -12)]
+    edge = ring(2, list(range(9)), [1] * 9, poles)
+    return sheet(edge, segment((-80, 262, -12.5), (90, 274, -12.5)), S=256, ranges=[(1.375, 9.375), None], gap=3.0)
+
+
+CLOSED_EXAMPLES = [('basin', basin_passed)]
+
+
 # ---- drawn sheets -------------------------------------------------------------
 
 
@@ -974,6 +984,8 @@ def closed_drawn():
     for part in (turns, seam_spans, seams, rounded_periods, lost_spans, closed_faults, closed_ends, closed_poles,
                  closed_ranges, closed_breaks, closed_memory, closed_words):
         yield from part()
+    for name, make in CLOSED_EXAMPLES:
+        yield 'example-' + name, make()
 
 
 # ---- random sheets --------------------------------------------------------------
@@ -1566,7 +1578,7 @@ def random_sheets(seed, count, closed=False):
 
 def write_examples(folder):
     os.makedirs(folder, exist_ok=True)
-    for name, make in EXAMPLES:
+    for name, make in EXAMPLES + CLOSED_EXAMPLES:
         with open(os.path.join(folder, name + '.sheet'), 'wb') as f:
             f.write(make())
 
