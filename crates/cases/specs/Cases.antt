@@ -1,7 +1,7 @@
 -- Document 01's starred lines as one list of cases: roots, the pieces of a line, and whole searches (the opening, the loop with the own verdicts, the report, in as much memory
 -- as they need). A second list has nets with the Rust's bits and the bounds of a line with free ends; last, searches with several pieces. Definitions only.
 use mathlib.Core.Path.{_≡_}
-use mathlib.Core.Bool.{false}
+use mathlib.Core.Bool.{true, false}
 use mathlib.Core.List.{List, [], _∷_, map}
 use Prim.Native.Nat.{ℕ, suc, _*_}
 use lib.ListN.{replicate, take}
@@ -257,6 +257,29 @@ further =
     ∷ testing (ofFreeEnds two64 three64) (0, 0)
     ∷ testing (ofFreeEnds two64 aboveThree64) (15, 1)
     ∷ testing (ofFreeEnds belowTwo64 three64) (15, 1)
+    ∷ []
+
+-- ---- closed lines (document 02, M-100), each asked for a turn from an inner knot on, over the seam
+-- degree 2, poles (0,0,0), (2,0,0), (2,2,0), with these knots and multiplicities
+abbrev pub ring : List Float → List ℕ → Line
+ring knots mults =
+    record {
+      closed = true;
+      degree = 2;
+      knots = knots;
+      mults = mults;
+      coords = zero64 ∷ zero64 ∷ zero64 ∷ two64 ∷ zero64 ∷ zero64 ∷ two64 ∷ two64 ∷ zero64 ∷ [];
+      weights = [];
+    }
+
+-- Knots 0, 1, 2, 3 once each: from 2 to 4 the pieces (1,1), (0,0), (1,0) and (1,0), (2,0), (2,1). Knots 0, 1, 2 with multiplicities 2, 1, 2, so that it goes through its first pole at the
+-- seam: from 1 to 3 the pieces (2,1), (2,2), (0,0) and (0,0), (2,0), (2,1).
+abbrev pub closed : List Case
+closed =
+    pieces (ring (zero64 ∷ one64 ∷ two64 ∷ three64 ∷ []) (1 ∷ 1 ∷ 1 ∷ 1 ∷ [])) two64 (ofBits binary64 0x4010_0000_0000_0000)
+        (at one64 one64 (at zero64 zero64 (at one64 zero64 (at one64 zero64 (at two64 zero64 (at two64 one64 []))))))
+    ∷ pieces (ring (zero64 ∷ one64 ∷ two64 ∷ []) (2 ∷ 1 ∷ 2 ∷ [])) one64 three64
+        (at two64 one64 (at two64 two64 (at zero64 zero64 (at zero64 zero64 (at two64 zero64 (at two64 one64 []))))))
     ∷ []
 
 -- ---- several pieces: their ranges, and regions of more than one pair

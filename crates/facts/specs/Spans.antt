@@ -8,12 +8,12 @@ use mathlib.Core.List.{List, [], _∷_}
 use Prim.Native.Nat.{ℕ, zero, suc, _+_, _-_}
 use lib.Dec.{T}
 use lib.ListN.{getD}
-use lib.Ieee.{Float, nan, binary64, add, le, lt, fits}
+use lib.Ieee.{Float, nan, binary64, add, sub, le, lt, fits}
 use Rattle.lists.specs.Members.{All}
 use Rattle.floats.specs.Floats.{middle}
 use Rattle.points.specs.declared.Interval.{Interval}
 use Rattle.lines.specs.Lines.{Line}
-use Rattle.knots.specs.Knots.{lastOf, periodOf, turnPoles, flatOf, knotsOf}
+use Rattle.knots.specs.Knots.{lastOf, turnPoles, flatOf, knotsOf}
 use Rattle.spans.specs.Spans.{spanOf, spanEnd, spanAround, turnSpan, placeOf}
 use Rattle.pieces.specs.Pieces.{held, netAt, cutTo}
 use Rattle.facts.specs.Faults.{poles}
@@ -51,7 +51,7 @@ ownSpan l t0 t1 = cond (l .closed) (turnSpan (knotsOf l) (middle t0 t1)) (spanEn
 -- knot i of a closed line a turn later: the last for the first, each other "at knot + period rounded"
 abbrev pub comesAgain : List Float → ℕ → Float
 comesAgain knots zero = lastOf knots
-comesAgain knots (suc i) = add binary64 (getD knots (suc i) nan) (periodOf knots)
+comesAgain knots (suc i) = add binary64 (getD knots (suc i) nan) (sub binary64 (lastOf knots) (getD knots 0 nan))
 
 -- a is span i of the line's own knots, or, of a closed line, that span a turn later
 abbrev pub IsSpan : Line → ℕ → Interval → Type 0
