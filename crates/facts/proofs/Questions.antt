@@ -3,21 +3,22 @@ use mathlib.Core.Path.{_≡_, refl, sym, ap, _∙_}
 use mathlib.Core.Logic.{_⊎_, inl, inr}
 use mathlib.Core.Bool.{Bool, true, false, cond, not}
 use mathlib.Core.List.{List, [], _∷_}
-use Prim.Native.Nat.{ℕ, _^_, _<_}
+use Prim.Native.Nat.{ℕ, _-_, _^_, _<_}
 use native.Mathlib.Omega.{arith}
 use lib.Dec.{T, ltb, lit<}
-use lib.Ieee.{Float, lt, le, binary64, sub}
+use lib.ListN.{getD, length}
+use lib.Ieee.{Float, nan, lt, le, binary64, sub}
 use Rattle.lists.specs.Tests.{eachTwo}
 use Rattle.floats.specs.Floats.{zero64, within, middle}
 use Rattle.points.specs.declared.Interval.{Interval}
 use Rattle.lines.specs.declared.Admission.the-variants.{Admitted}
 use Rattle.lines.specs.Admit.{two24, admitOf}
-use Rattle.knots.specs.Knots.{boundsOf, breaksOf}
+use Rattle.knots.specs.Knots.{boundsIn, boundsOf, breaksOf}
 use Rattle.questions.specs.declared.Asked.{Asked}
 use Rattle.questions.specs.declared.Asked.the-variants.{Fine, RangeOutOfBounds, GapOutOfRange, TooManySplits, BreaksTooClose}
 use Rattle.questions.specs.Questions.{askedNumber, askedLine, turnFits, rangeFits, parted, askWithin, askOf}
 use Rattle.lines.specs.Lines.{Line, Question}
-use Rattle.facts.specs.Faults.{ByKind, Fault15, Fault16, Fault18, QuestionFault, Earlier, askedPlace, FirstQuestionFault}
+use Rattle.facts.specs.Faults.{ByKind, Finite, OffTurn, Fault15, Fault16, Fault18, QuestionFault, Earlier, askedPlace, FirstQuestionFault}
 use Rattle.facts.proofs.Reflect.{Tests, of-T, of-lt, of-not, of-both, of-two, same}
 use Rattle.facts.proofs.Sizes.{of-gap, within-finite}
 use Rattle.facts.proofs.Cover.{range-fine}
@@ -86,9 +87,14 @@ ends-not true b lo hi e (inl n) = n (e .0)
 ends-not true b lo hi e (inr n) = n (e .1)
 ends-not false b lo hi e n = n e
 
-test15 : (l : Line) (lo hi : Float) → admitOf l ≡ Admitted → Tests (Fault15 l lo hi) (not (rangeFits (l .closed) (boundsOf l) lo hi))
+-- 15 by the line's bounds
+abbrev Bounds15 : Line → Float → Float → Type 0
+Bounds15 l lo hi =
+    (Finite lo → ⊥) ⊎ ((Finite hi → ⊥) ⊎ ((T (lt lo hi) → ⊥) ⊎ ((T (le (boundsOf l .lo) lo) → ⊥) ⊎ NoEnds (l .closed) (boundsOf l) lo hi)))
+
+bounds15 : (l : Line) (lo hi : Float) → admitOf l ≡ Admitted → Tests (Bounds15 l lo hi) (not (rangeFits (l .closed) (boundsOf l) lo hi))
 unfolding rangeFits
-test15 l lo hi ok = same to from (of-not (rangeFits (l .closed) (boundsOf l) lo hi) inside)
+bounds15 l lo hi ok = same to from (of-not (rangeFits (l .closed) (boundsOf l) lo hi) inside)
   where
     inside : Tests (T (lt lo hi) × (T (le (boundsOf l .lo) lo) × Ends (l .closed) (boundsOf l) lo hi)) (rangeFits (l .closed) (boundsOf l) lo hi)
     inside =
@@ -96,7 +102,7 @@ test15 l lo hi ok = same to from (of-not (rangeFits (l .closed) (boundsOf l) lo 
         (of-both (le (boundsOf l .lo) lo) (cond (l .closed) (turnFits (boundsOf l) lo hi) (le hi (boundsOf l .hi))) (of-T (le (boundsOf l .lo) lo))
         (ends-test (l .closed) (boundsOf l) lo hi))
 
-    to : (T (lt lo hi) × (T (le (boundsOf l .lo) lo) × Ends (l .closed) (boundsOf l) lo hi) → ⊥) → Fault15 l lo hi
+    to : (T (lt lo hi) × (T (le (boundsOf l .lo) lo) × Ends (l .closed) (boundsOf l) lo hi) → ⊥) → Bounds15 l lo hi
     to h =
         elim (decide (lt lo hi)) [
           | inl x ↦ elim (decide (le (boundsOf l .lo) lo)) [
@@ -106,7 +112,7 @@ test15 l lo hi ok = same to from (of-not (rangeFits (l .closed) (boundsOf l) lo 
           | inr n ↦ inr (inr (inl n))
         ]
 
-    from : Fault15 l lo hi → T (lt lo hi) × (T (le (boundsOf l .lo) lo) × Ends (l .closed) (boundsOf l) lo hi) → ⊥
+    from : Bounds15 l lo hi → T (lt lo hi) × (T (le (boundsOf l .lo) lo) × Ends (l .closed) (boundsOf l) lo hi) → ⊥
     from (inl n) t = n (within-finite (2 ^ 20) lo (range-fine l lo hi ok (inside .holds t) .0))
     from (inr (inl n)) t = n (within-finite (2 ^ 22) hi (range-fine l lo hi ok (inside .holds t) .1))
     from (inr (inr (inl n))) t = n (t .0)
@@ -123,6 +129,34 @@ test18 l lo hi =
     (λ t0 t1. of-not (parted t0 t1)
     (of-both (lt t0 (middle t0 t1)) (lt (middle t0 t1) t1) (of-T (lt t0 (middle t0 t1))) (of-T (lt (middle t0 t1) t1))))
     (breaksOf l lo hi)
+
+-- these are a closed line's first and last knot
+abbrev Off : Bool → ℕ → List Float → List ℕ → Float → Float → Type 0
+Off closed degree knots mults lo hi =
+    ByKind closed (OffTurn (getD knots 0 nan) (getD knots (length knots - 1) nan) lo hi)
+    ((T (le (boundsIn closed degree knots mults .lo) lo) → ⊥) ⊎ (T (le hi (boundsIn closed degree knots mults .hi)) → ⊥))
+
+by-knots : (closed : Bool) (degree : ℕ) (knots : List Float) (mults : List ℕ) (lo hi : Float)
+    → (((T (le (boundsIn closed degree knots mults .lo) lo) → ⊥) ⊎ NoEnds closed (boundsIn closed degree knots mults) lo hi) → Off closed degree knots mults lo hi)
+    × (Off closed degree knots mults lo hi → (T (le (boundsIn closed degree knots mults .lo) lo) → ⊥) ⊎ NoEnds closed (boundsIn closed degree knots mults) lo hi)
+unfolding boundsIn
+by-knots true degree knots mults lo hi = (λ x. x, λ x. x)
+by-knots false degree knots mults lo hi = (λ x. x, λ x. x)
+
+test15 : (l : Line) (lo hi : Float) → admitOf l ≡ Admitted → Tests (Fault15 l lo hi) (not (rangeFits (l .closed) (boundsOf l) lo hi))
+test15 l lo hi ok = same to from (bounds15 l lo hi ok)
+  where
+    to : Bounds15 l lo hi → Fault15 l lo hi
+    to (inl x) = inl x
+    to (inr (inl x)) = inr (inl x)
+    to (inr (inr (inl x))) = inr (inr (inl x))
+    to (inr (inr (inr x))) = inr (inr (inr (by-knots (l .closed) (l .degree) (l .knots) (l .mults) lo hi .0 x)))
+
+    from : Fault15 l lo hi → Bounds15 l lo hi
+    from (inl x) = inl x
+    from (inr (inl x)) = inr (inl x)
+    from (inr (inr (inl x))) = inr (inr (inl x))
+    from (inr (inr (inr x))) = inr (inr (inr (by-knots (l .closed) (l .degree) (l .knots) (l .mults) lo hi .1 x)))
 
 -- ---- the order of the places
 irreflexive : (k : ℕ × ℕ) → Earlier k k → ⊥

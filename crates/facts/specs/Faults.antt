@@ -120,13 +120,16 @@ rowPlace n = cond (eqb n 22) 15 (2 * n)
 abbrev pub FirstLineFault : ℕ → Line → Type 0
 FirstLineFault n l = LineFault n l × ((k : ℕ) → rowPlace k < rowPlace n → LineFault k l → ⊥)
 
--- 15: a range isn't finite, lo ≥ hi (a NaN is no number below another), or it leaves the line's bounds; on a closed line, it doesn't start in [first knot, last knot) or is, as rounded,
--- longer than the period
+-- "A range starts in [first knot, last knot) and is, as rounded, no longer than the period": it doesn't, or it isn't
+abbrev pub OffTurn : Float → Float → Float → Float → Type 0
+OffTurn first last lo hi = (T (le first lo) → ⊥) ⊎ ((T (lt lo last) → ⊥) ⊎ (T (le (sub binary64 hi lo) (sub binary64 last first)) → ⊥))
+
+-- 15: a range isn't finite, lo ≥ hi (a NaN is no number below another), or it leaves the line's bounds; on a closed line, instead of these, what a turn asks
 abbrev pub Fault15 : Line → Float → Float → Type 0
 Fault15 l lo hi =
-    (Finite lo → ⊥) ⊎ ((Finite hi → ⊥) ⊎ ((T (lt lo hi) → ⊥) ⊎ ((T (le (boundsOf l .lo) lo) → ⊥)
-    ⊎ ByKind (l .closed) ((T (lt lo (boundsOf l .hi)) → ⊥) ⊎ (T (le (sub binary64 hi lo) (sub binary64 (boundsOf l .hi) (boundsOf l .lo))) → ⊥))
-    (T (le hi (boundsOf l .hi)) → ⊥))))
+    (Finite lo → ⊥) ⊎ ((Finite hi → ⊥) ⊎ ((T (lt lo hi) → ⊥)
+    ⊎ ByKind (l .closed) (OffTurn (getD (l .knots) 0 nan) (getD (l .knots) (length (l .knots) - 1) nan) lo hi)
+    ((T (le (boundsOf l .lo) lo) → ⊥) ⊎ (T (le hi (boundsOf l .hi)) → ⊥))))
 
 -- 16: the gap isn't from 0 to 2^24
 abbrev pub Fault16 : Float → Type 0
