@@ -277,9 +277,9 @@ ring knots mults =
 abbrev pub closed : List Case
 closed =
     pieces (ring (zero64 ∷ one64 ∷ two64 ∷ three64 ∷ []) (1 ∷ 1 ∷ 1 ∷ 1 ∷ [])) two64 (ofBits binary64 0x4010_0000_0000_0000)
-        (at one64 one64 (at zero64 zero64 (at one64 zero64 (at one64 zero64 (at two64 zero64 (at two64 one64 []))))))
+    (at one64 one64 (at zero64 zero64 (at one64 zero64 (at one64 zero64 (at two64 zero64 (at two64 one64 []))))))
     ∷ pieces (ring (zero64 ∷ one64 ∷ two64 ∷ []) (2 ∷ 1 ∷ 2 ∷ [])) one64 three64
-        (at two64 one64 (at two64 two64 (at zero64 zero64 (at zero64 zero64 (at two64 zero64 (at two64 one64 []))))))
+    (at two64 one64 (at two64 two64 (at zero64 zero64 (at zero64 zero64 (at two64 zero64 (at two64 one64 []))))))
     ∷ []
 
 -- ---- several pieces: their ranges, and regions of more than one pair
