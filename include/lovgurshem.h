@@ -129,16 +129,17 @@ size_t lovgurshem_answer(const uint8_t *sheet, size_t sheet_length,
  * A line is a number, 0 for an open one and any other for a closed one, its
  * degree, distinct knots, their multiplicities, three coordinates a pole, and
  * one weight a pole; a count of 0 weights means that every weight is 1. A closed
- * line's period is its last knot less its first; its range starts from the first
- * knot on and below the last, and is no longer than the period.
+ * line's period is its last knot less its first, rounded; its range starts from
+ * the first knot on and below the last, and is, as rounded, no longer than the
+ * period.
  *
  * Refused in this order: 4 to 14 of the first line, 22 after 7, then of the
- * second; 15 to 18; 19 for fewer than LOVGURSHEM_STATE words or short pieces. So far nothing
- * is written. Then the pieces' nets are written to pieces1 and pieces2, and 19
- * is tested for nets, ranges, depths and raw, whose contents it leaves, as it
- * leaves the words. At 0 the first P slots of nets, ranges and depths are the
- * pairs' and the words are the state's; nothing else in any slice changes. raw
- * is only measured here.
+ * second; 15 to 18; 19 for fewer than LOVGURSHEM_STATE words or short pieces. So
+ * far nothing is written. Then the pieces' nets are written to pieces1 and
+ * pieces2, and 19 is tested for nets, ranges, depths and raw, whose contents it
+ * leaves, as it leaves the words. At 0 the first P slots of nets, ranges and
+ * depths are the pairs' and the words are the state's; nothing else in any slice
+ * changes. raw is only measured here.
  */
 uint32_t lovgurshem_open(double lo1, double hi1, double lo2, double hi2,
     double gap, uint32_t splits,

@@ -15,7 +15,7 @@ use Rattle.lines.specs.declared.Admission.{Admission}
 use Rattle.lines.specs.declared.Admission.the-variants.{Admitted, InvalidDegree, KnotCount, KnotOutOfRange, KnotsNotIncreasing, EndMultiplicitiesDiffer, MultiplicityTooLarge, ZeroMultiplicity, PoleCountMismatch, PoleCountOutOfRange, WeightCountMismatch, WeightOutOfRange, CoordinateOutOfRange}
 use Rattle.lines.specs.Admit.{admissionNumber, two20, two24, two10, one1024th, inner, degreeOut, knotCountOut, knotOut, notIncreasing, endsDiffer, endsTooLarge, tooLarge, zeroMult, beyondOf, poleMismatch, poleCountOut, weightMismatch, weightOut, coordOut, validateKnots, validateMults, validatePoles, admitOf}
 use Rattle.lines.specs.Lines.{Line}
-use Rattle.facts.specs.Faults.{WithinFactor, ByKind, poles, lastMult, Fault4, Fault5, Fault6, Fault7, Fault22, Fault8, Fault9, Fault10, Fault11, Fault12, Fault13, Fault14, LineFault, rowPlace, FirstLineFault}
+use Rattle.facts.specs.Faults.{WithinFactor, ByClosed, poles, lastMult, Fault4, Fault5, Fault6, Fault7, Fault22, Fault8, Fault9, Fault10, Fault11, Fault12, Fault13, Fault14, LineFault, rowRank, FirstLineFault}
 use Rattle.facts.proofs.Reflect.{Tests, never, of-T, of-lt, of-eq, of-or, of-or3, of-not, of-neither, of-over, of-any, of-two, of-kind, same}
 use Rattle.facts.proofs.Sizes.{of-within20, of-within24, of-weight}
 use Rattle.facts.proofs.Rows.{firstRow, Met, InOrder, first-met, met-first, none-met, met-none, Apart, row, of-row}
@@ -117,7 +117,7 @@ module _ (l : Line) where
       of-or (not (eqb (length (l .coords) % 3) 0)) (not (eqb (poles l + beyondOf (l .closed) (l .degree) (l .mults)) (total (l .mults))))
       (of-not (eqb (length (l .coords) % 3) 0) (of-eq (length (l .coords) % 3) 0)) (go (l .closed))
     where
-      go : (closed : Bool) → Tests (ByKind closed (poles l + lastMult l ≡ total (l .mults) → ⊥) (poles l + (l .degree + 1) ≡ total (l .mults) → ⊥))
+      go : (closed : Bool) → Tests (ByClosed closed (poles l + lastMult l ≡ total (l .mults) → ⊥) (poles l + (l .degree + 1) ≡ total (l .mults) → ⊥))
           (not (eqb (poles l + beyondOf closed (l .degree) (l .mults)) (total (l .mults))))
       go true = unfold beyondOf in of-not (eqb (poles l + lastMult l) (total (l .mults))) (of-eq (poles l + lastMult l) (total (l .mults)))
       go false = unfold beyondOf in of-not (eqb (poles l + (l .degree + 1)) (total (l .mults))) (of-eq (poles l + (l .degree + 1)) (total (l .mults)))
@@ -147,7 +147,7 @@ module _ (l : Line) where
       (λ s. elim s [ inl x ↦ (x .0, test14 .yes (x .1)) | inr y ↦ absurd y ])))))))))))
 
   abbrev Before : ℕ → ℕ → Type 0
-  Before k n = rowPlace k < rowPlace n
+  Before k n = rowRank k < rowRank n
 
   in-order : InOrder Before (rows l)
   unfolding rows

@@ -18,7 +18,7 @@ use Rattle.questions.specs.declared.Asked.{Asked}
 use Rattle.questions.specs.declared.Asked.the-variants.{Fine, RangeOutOfBounds, GapOutOfRange, TooManySplits, BreaksTooClose}
 use Rattle.questions.specs.Questions.{askedNumber, askedLine, turnFits, rangeFits, parted, askWithin, askOf}
 use Rattle.lines.specs.Lines.{Line, Question}
-use Rattle.facts.specs.Faults.{ByKind, Finite, OffTurn, Fault15, Fault16, Fault18, QuestionFault, Earlier, askedPlace, FirstQuestionFault}
+use Rattle.facts.specs.Faults.{ByClosed, Finite, OffTurn, Fault15, Fault16, Fault18, QuestionFault, Earlier, askedPlace, FirstQuestionFault}
 use Rattle.facts.proofs.Reflect.{Tests, of-T, of-lt, of-not, of-both, of-two, same}
 use Rattle.facts.proofs.Sizes.{of-gap, within-finite}
 use Rattle.facts.proofs.Cover.{range-fine}
@@ -72,7 +72,7 @@ ends-test false b lo hi = of-T (le hi (b .hi))
 -- what is left of 15 where they fail
 abbrev NoEnds : Bool → Interval → Float → Float → Type 0
 NoEnds closed b lo hi =
-    ByKind closed ((T (lt lo (b .hi)) → ⊥) ⊎ (T (le (sub binary64 hi lo) (sub binary64 (b .hi) (b .lo))) → ⊥)) (T (le hi (b .hi)) → ⊥)
+    ByClosed closed ((T (lt lo (b .hi)) → ⊥) ⊎ (T (le (sub binary64 hi lo) (sub binary64 (b .hi) (b .lo))) → ⊥)) (T (le hi (b .hi)) → ⊥)
 
 ends-either : (closed : Bool) (b : Interval) (lo hi : Float) → Ends closed b lo hi ⊎ NoEnds closed b lo hi
 ends-either true b lo hi =
@@ -133,7 +133,7 @@ test18 l lo hi =
 -- these are a closed line's first and last knot
 abbrev Off : Bool → ℕ → List Float → List ℕ → Float → Float → Type 0
 Off closed degree knots mults lo hi =
-    ByKind closed (OffTurn (getD knots 0 nan) (getD knots (length knots - 1) nan) lo hi)
+    ByClosed closed (OffTurn (getD knots 0 nan) (getD knots (length knots - 1) nan) lo hi)
     ((T (le (boundsIn closed degree knots mults .lo) lo) → ⊥) ⊎ (T (le hi (boundsIn closed degree knots mults .hi)) → ⊥))
 
 by-knots : (closed : Bool) (degree : ℕ) (knots : List Float) (mults : List ℕ) (lo hi : Float)

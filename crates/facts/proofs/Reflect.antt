@@ -9,7 +9,7 @@ use borrow.Author.Tests.{ltb-true, lt-ltb, leb-true, leb-false, eqb-true, eq-eqb
 use lib.Dec.{T, ltb, leb, eqb}
 use Rattle.lists.specs.Members.{Any}
 use Rattle.lists.specs.Tests.{every, eachTwo}
-use Rattle.facts.specs.Faults.{AnyTwo, ByKind}
+use Rattle.facts.specs.Faults.{AnyTwo, ByClosed}
 
 -- the test b decides P
 pub record Tests (P : Type 0) (b : Bool) : Type 0 where
@@ -105,6 +105,6 @@ of-over a b = go (leb a b) (leb-true a b) (leb-false a b)
     go false f g = record { yes = λ e. g refl; holds = λ h. refl }
 
 -- one test of a closed line, another of an open one
-pub of-kind : {P Q : Type 0} (closed a b : Bool) → Tests P a → Tests Q b → Tests (ByKind closed P Q) (cond closed a b)
+pub of-kind : {P Q : Type 0} (closed a b : Bool) → Tests P a → Tests Q b → Tests (ByClosed closed P Q) (cond closed a b)
 of-kind true a b p q = p
 of-kind false a b p q = q

@@ -47,9 +47,9 @@ abbrev pub poles : Line → ℕ
 poles l = length (l .coords) / 3
 
 -- the first of a closed line, the second of an open one
-abbrev pub ByKind : Bool → Type 0 → Type 0 → Type 0
-ByKind true ofClosed ofOpen = ofClosed
-ByKind false ofClosed ofOpen = ofOpen
+abbrev pub ByClosed : Bool → Type 0 → Type 0 → Type 0
+ByClosed true ofClosed ofOpen = ofClosed
+ByClosed false ofClosed ofOpen = ofOpen
 
 -- the last multiplicity
 abbrev pub lastMult : Line → ℕ
@@ -78,7 +78,7 @@ Fault22 l = (l .closed ≡ true) × (getD (l .mults) 0 0 ≡ lastMult l → ⊥)
 -- 8: an end multiplicity is over degree + 1, or an inner one over degree; on a closed line one is over degree
 abbrev pub Fault8 : Line → Type 0
 Fault8 l =
-    ByKind (l .closed) (Any (λ m. l .degree < m) (l .mults))
+    ByClosed (l .closed) (Any (λ m. l .degree < m) (l .mults))
     ((l .degree + 1 < getD (l .mults) 0 0) ⊎ ((l .degree + 1 < lastMult l) ⊎ Any (λ m. l .degree < m) (inner (l .mults))))
 
 -- 9: a multiplicity is 0
@@ -88,7 +88,7 @@ Fault9 l = Any (λ m. m ≡ 0) (l .mults)
 -- 10: coordinates are no multiple of 3, or poles ≠ sum of multiplicities − degree − 1; on a closed line, ≠ sum − last multiplicity
 abbrev pub Fault10 : Line → Type 0
 Fault10 l =
-    (length (l .coords) % 3 ≡ 0 → ⊥) ⊎ ByKind (l .closed) (poles l + lastMult l ≡ total (l .mults) → ⊥) (poles l + (l .degree + 1) ≡ total (l .mults) → ⊥)
+    (length (l .coords) % 3 ≡ 0 → ⊥) ⊎ ByClosed (l .closed) (poles l + lastMult l ≡ total (l .mults) → ⊥) (poles l + (l .degree + 1) ≡ total (l .mults) → ⊥)
 
 -- 11: poles are fewer than degree + 1 or over 128
 abbrev pub Fault11 : Line → Type 0
@@ -113,12 +113,12 @@ LineFault n l =
     ⊎ (((10 ≡ n) × Fault10 l) ⊎ (((11 ≡ n) × Fault11 l) ⊎ (((12 ≡ n) × Fault12 l) ⊎ (((13 ≡ n) × Fault13 l) ⊎ ((14 ≡ n) × Fault14 l)))))))))))
 
 -- where a row stands among a line's: by its number, and 22 "tested after 7"
-abbrev pub rowPlace : ℕ → ℕ
-rowPlace n = cond (eqb n 22) 15 (2 * n)
+abbrev pub rowRank : ℕ → ℕ
+rowRank n = cond (eqb n 22) 15 (2 * n)
 
 -- the first row that the line meets has number n
 abbrev pub FirstLineFault : ℕ → Line → Type 0
-FirstLineFault n l = LineFault n l × ((k : ℕ) → rowPlace k < rowPlace n → LineFault k l → ⊥)
+FirstLineFault n l = LineFault n l × ((k : ℕ) → rowRank k < rowRank n → LineFault k l → ⊥)
 
 -- "A range starts in [first knot, last knot) and is, as rounded, no longer than the period": it doesn't, or it isn't
 abbrev pub OffTurn : Float → Float → Float → Float → Type 0
@@ -128,7 +128,7 @@ OffTurn first last lo hi = (T (le first lo) → ⊥) ⊎ ((T (lt lo last) → �
 abbrev pub Fault15 : Line → Float → Float → Type 0
 Fault15 l lo hi =
     (Finite lo → ⊥) ⊎ ((Finite hi → ⊥) ⊎ ((T (lt lo hi) → ⊥)
-    ⊎ ByKind (l .closed) (OffTurn (getD (l .knots) 0 nan) (getD (l .knots) (length (l .knots) - 1) nan) lo hi)
+    ⊎ ByClosed (l .closed) (OffTurn (getD (l .knots) 0 nan) (getD (l .knots) (length (l .knots) - 1) nan) lo hi)
     ((T (le (boundsOf l .lo) lo) → ⊥) ⊎ (T (le hi (boundsOf l .hi)) → ⊥))))
 
 -- 16: the gap isn't from 0 to 2^24

@@ -33,8 +33,8 @@ abbrev pub spanNumber : Line → Float → ℕ
 spanNumber l u = spanOf (l .degree) (flatOf l) u
 
 -- for the piece from t0 to t1: the knots around the middle, which `CurvePieces::new` takes as the net's range when it cuts the net to t0 and t1
-abbrev pub around : Line → Float → Float → Interval
-around l t0 t1 = spanAround (knotsOf l) (middle t0 t1)
+abbrev pub cutSpan : Line → Float → Float → Interval
+cutSpan l t0 t1 = spanAround (knotsOf l) (middle t0 t1)
 
 -- and the number of the span that the net is made of, in `span_bezier`
 abbrev pub netSpan : Line → Float → Float → ℕ
@@ -61,9 +61,9 @@ IsSpan l i a =
 
 -- The range to which the net is cut holds both breaks; it is a span of the line's own knots or the same a turn later, and that is the span that the net is made of.
 pub record InOneSpan (l : Line) (t0 t1 : Float) : Type 0 where
-  pub from : T (le (around l t0 t1 .lo) t0)
-  pub to : T (le t1 (around l t0 t1 .hi))
-  pub same : IsSpan l (ownSpan l t0 t1) (around l t0 t1)
+  pub from : T (le (cutSpan l t0 t1 .lo) t0)
+  pub to : T (le t1 (cutSpan l t0 t1 .hi))
+  pub same : IsSpan l (ownSpan l t0 t1) (cutSpan l t0 t1)
   pub starts : getD (flatOf l) (netSpan l t0 t1) nan ≡ getD (l .knots) (ownSpan l t0 t1) nan
   pub ends : getD (flatOf l) (netSpan l t0 t1 + 1) nan ≡ getD (l .knots) (ownSpan l t0 t1 + 1) nan
 
@@ -75,5 +75,5 @@ Doubles l lo hi = All (λ (x : Float). T (fits binary64 x)) (l .knots) × T (fit
 pub record OfOneSpan (l : Line) (p : Piece) : Type 0 where
   pub range : InOneSpan l (p .lo) (p .hi)
   pub net : p .net
-      ≡ cutTo (around l (p .lo) (p .hi)) (p .lo) (p .hi) (l .degree + 1)
+      ≡ cutTo (cutSpan l (p .lo) (p .hi)) (p .lo) (p .hi) (l .degree + 1)
       (netAt (l .degree) (flatOf l) (netPoles l) (netSpan l (p .lo) (p .hi)) (held (l .degree) (flatOf l) (placeOf (l .closed) (knotsOf l) (middle (p .lo) (p .hi)))))

@@ -33,6 +33,7 @@ unfoldable pub boundsIn : Bool → ℕ → List Float → List ℕ → Interval
 boundsIn closed degree knots mults = cond closed (record { lo = getD knots 0 nan; hi = lastOf knots }) (openBounds degree knots mults)
 
 -- ---- a closed line's knots over more than a turn
+-- the last knot less the first, rounded
 abbrev pub periodOf : List Float → Float
 periodOf knots = sub binary64 (lastOf knots) (getD knots 0 nan)
 

@@ -1,4 +1,4 @@
--- Document 01's table, numbers 15 to 18: what is wrong with a question. Definitions only.
+-- Document 01's table, numbers 15 to 18, with what document 02 says of the range of a closed line: what is wrong with a question. Definitions only.
 use Prim.Native.Nat.{ℕ}
 use mathlib.Core.Bool.{Bool, false, cond, not}
 use mathlib.Core.List.{List}
@@ -33,7 +33,8 @@ askedLine (BreaksTooClose line) = line
 unfoldable pub turnFits : Interval → Float → Float → Bool
 turnFits bounds lo hi = cond (lt lo (bounds .hi)) (le (sub binary64 hi lo) (sub binary64 (bounds .hi) (bounds .lo))) false
 
--- 15 isn't met: lo < hi, and the range inside the bounds, or no longer than the period; these are finite, so it is
+-- 15 isn't met: lo < hi, and an open line's range lies inside its bounds, a closed one's starts in them and is no longer than the period. The bounds are finite, and so is then the range: an infinite end has an infinite length,
+-- and a NaN is neither below nor above a number
 unfoldable pub rangeFits : Bool → Interval → Float → Float → Bool
 rangeFits closed bounds lo hi = cond (lt lo hi) (cond (le (bounds .lo) lo) (cond closed (turnFits bounds lo hi) (le hi (bounds .hi))) false) false
 

@@ -1,3 +1,4 @@
 pub mod Words
 pub mod Sheets
 pub mod Places
+pub mod Examples

@@ -1,0 +1,81 @@
+-- Sheets that are walked by computation: the paper's example, closed lines in the place of open ones, and small sheets with one fault each. Definitions only.
+use mathlib.Core.Path.{_≡_}
+use mathlib.Core.Bool.{Bool, true, false}
+use mathlib.Core.List.{List, [], _∷_, _++_}
+use Prim.Native.Nat.{ℕ, _+_, _*_, _/_, _%_}
+use lib.Ieee.{Float, binary64, ofBits}
+use Rattle.lists.specs.Members.{All}
+use Rattle.lines.specs.Lines.{Line}
+use Rattle.walks.specs.Sheets.{Walked, walked, refusedAs, walkOf}
+
+-- words as bytes; a word of kind k and count n; the floats 0 and 1 as words
+abbrev pub bytes : List ℕ → List ℕ
+bytes [] = []
+bytes (w ∷ l) = w % 256 ∷ w / 256 % 256 ∷ w / 65536 % 256 ∷ w / 16777216 ∷ bytes l
+
+abbrev pub head : ℕ → ℕ → ℕ
+head k n = k * 268435456 + n
+
+abbrev pub nought : List ℕ
+nought = 0 ∷ 0 ∷ []
+
+abbrev pub one : List ℕ
+one = 0 ∷ 0x3ff00000 ∷ []
+
+-- the line (0,0,0) to (1,0,0), degree 1, knots 0 and 1 doubled, opened by a word of kind k
+abbrev pub opened : ℕ → List ℕ
+opened k = (head k 1 ∷ head 2 2 ∷ []) ++ nought ++ one ++ (head 3 2 ∷ 2 ∷ 2 ∷ head 4 2 ∷ []) ++ nought ++ nought ++ nought ++ one ++ nought ++ nought
+
+abbrev pub straight : List ℕ
+straight = opened 1
+
+-- the question of whole ranges, gap 0, S 0, and the end
+abbrev pub asked : List ℕ
+asked = (head 6 0 ∷ []) ++ nought ++ one ++ nought ++ one ++ nought ++ (head 7 0 ∷ [])
+
+abbrev pub zeroF : Float
+zeroF = ofBits binary64 0
+
+abbrev pub oneF : Float
+oneF = ofBits binary64 0x3ff0000000000000
+
+abbrev pub line : Bool → Line
+line closed = record { closed = closed; degree = 1; knots = zeroF ∷ oneF ∷ []; mults = 2 ∷ 2 ∷ []; coords = zeroF ∷ zeroF ∷ zeroF ∷ oneF ∷ zeroF ∷ zeroF ∷ []; weights = [] }
+
+abbrev pub about : Line → Line → Walked
+about a b = walked (record { line1 = a; lo1 = zeroF; hi1 = oneF; line2 = b; lo2 = zeroF; hi2 = oneF; gap = zeroF; splits = 0 })
+
+-- a sheet's words, and what is read of it
+pub record Sheet : Type 0 where
+  pub words : List ℕ
+  pub gives : Walked
+
+abbrev pub gives : List ℕ → Walked → Sheet
+gives words w = record { words = words; gives = w }
+
+abbrev pub sheets : List Sheet
+sheets =
+    -- "given twice, whole ranges, gap 0, S 0"
+    gives (straight ++ straight ++ asked) (about (line false) (line false))
+    -- kind 8 in the place of kind 1: on the first line, on the second, on both
+    ∷ gives (opened 8 ++ straight ++ asked) (about (line true) (line false))
+    ∷ gives (straight ++ opened 8 ++ asked) (about (line false) (line true))
+    ∷ gives (opened 8 ++ opened 8 ++ asked) (about (line true) (line true))
+    -- kind 9 there: 2; kind 8 where the knots are due: 2
+    ∷ gives (straight ++ opened 9 ++ asked) (refusedAs 2)
+    ∷ gives ((head 8 1 ∷ []) ++ opened 8 ++ straight ++ asked) (refusedAs 2)
+    -- the first word of another kind, with a count that nothing could meet: 2
+    ∷ gives (head 2 0xfffffff ∷ []) (refusedAs 2)
+    -- poles of a count whose 24-fold needs 33 bits: 3
+    ∷ gives (head 1 1 ∷ head 2 0 ∷ head 3 0 ∷ head 4 0xfffffff ∷ []) (refusedAs 3)
+    -- weights of count 0 as the last word: 2
+    ∷ gives (head 1 1 ∷ head 2 0 ∷ head 3 0 ∷ head 4 0 ∷ head 5 0 ∷ []) (refusedAs 2)
+    -- the second line is missing: 3
+    ∷ gives straight (refusedAs 3)
+    -- an end word of count 1 with a word behind it: 2; of count 0: 3
+    ∷ gives (straight ++ straight ++ (head 6 0 ∷ []) ++ nought ++ one ++ nought ++ one ++ nought ++ (head 7 1 ∷ 0 ∷ [])) (refusedAs 2)
+    ∷ gives (straight ++ straight ++ (head 6 0 ∷ []) ++ nought ++ one ++ nought ++ one ++ nought ++ (head 7 0 ∷ 0 ∷ [])) (refusedAs 3)
+    ∷ []
+
+abbrev pub SheetsWalked : Type 0
+SheetsWalked = All (λ (s : Sheet). walkOf (bytes (s .words)) ≡ s .gives) sheets
