@@ -21,8 +21,8 @@
  * ties to even, subnormals kept (a program linked for fast, inexact math turns
  * these off). Any double is taken, NaN too.
  *
- * STACK, as measured, with a margin: lovgurshem_answer wants 600 KB,
- * lovgurshem_open 64 KB, the others 16 KB. Of the C library memcpy and memset
+ * STACK, as measured, with a margin: lovgurshem_answer wants 640 KB,
+ * lovgurshem_open 80 KB, the others 16 KB. Of the C library memcpy and memset
  * are called, and nothing else.
  *
  * NUMBERS. Answers of open, step, run and report are 0, or the number of the
