@@ -10,8 +10,9 @@ N times in one process. ARCHIVE is the library as `rt staticlib lovgurshem` writ
 Each side answers the sheet, from its bytes to the printed text, as many times in one process as the Rust needs for
 about a third of a second, so that starting a process is below one percent. Both sides run in turn, N times each
 (9); the figure is the least user time of a side, divided by the count. Before that the answers are compared byte
-for byte. In the same turns the library's calls for opening, loop and report run on the sheet's lines in memory that is
-made once (calls.c); they read no sheet and print nothing, so no ratio is taken of them.
+for byte, marks apart, which the Rust lacks. In the same turns the library's calls for opening, loop and report run on
+the sheet's lines in memory that is made once (calls.c); they read no sheet and print nothing, so no ratio is taken of
+them.
 
 Then the memory of both sides, and the time of a report by its raw list (merge.c).
 """
@@ -21,6 +22,7 @@ import sys
 import tempfile
 
 import bench_sheets
+from sheets import unmarked
 
 HERE = os.path.dirname(os.path.abspath(__file__))
 TARGET = os.path.join(HERE, '..', 'target')
@@ -66,7 +68,7 @@ def least_stack(side, data):
 
 def timed(name, data, rust, here, calls, runs):
     _, text = here.answer(data)
-    if text is None or text != rust.answer(data)[1]:
+    if text is None or unmarked(text.decode('ascii')).encode('ascii') != rust.answer(data)[1]:
         sys.exit('%s: the answers differ' % name)
     tried = 20
     while rust.times(data, tried) < SPAN / 8:

@@ -20,6 +20,7 @@ static struct line first, second;
 static double asked[5];
 static double pieces1[8112], pieces2[8112], nets1[7904], nets2[7904], ranges[304], raw[8190], report[8190];
 static uint8_t depths[76];
+static uint32_t marks[819];
 static uint64_t state[LOVGURSHEM_STATE], counts[LOVGURSHEM_COUNTS];
 
 /* The count of the next word, which is of this kind. */
@@ -78,7 +79,7 @@ int main(int argc, char **argv)
                 second.closed, second.degree, second.knots, second.knot_count, second.mults, second.mult_count, second.coords, second.coord_count, second.weights, second.weight_count,
                 SLICE(pieces1), SLICE(pieces2), SLICE(nets1), SLICE(nets2), SLICE(ranges), SLICE(depths), SLICE(raw), SLICE(state)) != 0
             || (steps ? take_steps() : lovgurshem_run(SLICE(state), SLICE(nets1), SLICE(nets2), SLICE(ranges), SLICE(depths), SLICE(raw))) != 0
-            || lovgurshem_report(SLICE(state), SLICE(nets1), SLICE(nets2), SLICE(ranges), SLICE(depths), SLICE(raw), SLICE(report), SLICE(counts)) != 0)
+            || lovgurshem_report(SLICE(state), SLICE(nets1), SLICE(nets2), SLICE(ranges), SLICE(depths), SLICE(raw), SLICE(report), SLICE(marks), SLICE(counts)) != 0)
             return 1;
     printf("%u %u\n", (unsigned)counts[0], (unsigned)counts[8]);
     return 0;

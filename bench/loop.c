@@ -1,11 +1,9 @@
 /* loop N < SHEET: the library's answer to the sheet, N times in one process; prints the last. */
-#include <stdint.h>
+#include "lovgurshem.h"
 #include <stdio.h>
 #include <stdlib.h>
 
-extern size_t lovgurshem_answer(const uint8_t *sheet, size_t sheet_length, uint8_t *answer, size_t answer_length);
-
-static uint8_t sheet[16388], answer[145169];
+static uint8_t sheet[16388], answer[LOVGURSHEM_ANSWER];
 
 int main(int argc, char **argv) {
     long turns = argc == 2 ? atol(argv[1]) : 0;

@@ -54,13 +54,15 @@
  *   11        64    the gap, as the bits of a double
  *   12 to 14  none  kept for the nodes settled by box, by plane and by line
  *   15, 16    none  kept for the edition and its joint length
- *   17, 18    none  kept for whether each line is asked for a whole turn
- *   19 to 22  none  kept for the asked lo and hi of the first line, the second
- * Words 12 to 22 have no bits yet: the opening writes 0. Fewer words, a word
+ *   17, 18    1     whether the first line, and the second, is closed and asked
+ *                   for a whole turn: hi - lo, as rounded, is its period
+ *   19 to 22  64    lo1, hi1, lo2, hi2 as asked, as the bits of doubles
+ * Words 12 to 16 have no bits yet: the opening writes 0. Fewer words, a word
  * beyond its bits, a width (8, 9) that isn't 2 to 26 or a word without bits
- * that isn't 0 are no state's. Every pattern of word 11 is a gap, a NaN's too.
- * A step and the loop write words 2 to 7 and 10; the others, and words behind
- * the last, are left alone. Own verdict and report write none.
+ * that isn't 0 are no state's. Every pattern of words 11 and 19 to 22 is a
+ * double, a NaN's too. A step and the loop write words 2 to 7 and 10; the
+ * others, and words behind the last, are left alone. Own verdict and report
+ * write none.
  *
  * The state and the lent memory (nets, ranges, depths, raw) belong together:
  * carry both on from call to call as the last one left them. Then each call
@@ -75,6 +77,7 @@
  *   nets of a line     4 * width * (P + 64)
  *   ranges             4 * (P + 64)
  *   depths             P + 64
+ *   marks              P * (S + 1)
  *   raw, report        10 * P * (S + 1) each
  * P is at most the product of the two counts of pieces, and known after the
  * opening. A call that needs a slice and is lent a shorter one is number 19;
@@ -100,7 +103,7 @@ extern "C" {
 #define LOVGURSHEM_COUNTS 9
 
 /* Bytes of a buffer that every sheet's answer fits. */
-#define LOVGURSHEM_ANSWER 145169
+#define LOVGURSHEM_ANSWER 162368
 
 /* Verdicts, as own verdict answers them and as a step takes them. */
 #define LOVGURSHEM_SETTLED 1
@@ -212,9 +215,20 @@ uint32_t lovgurshem_run(uint64_t *state, size_t state_length,
  * settled, given, left, allowance left, and how many regions; raw has the raw
  * list whole, and report the merged regions, then +0 up to the raw list's
  * length. A region is ten doubles: first lo, hi, second lo, hi, lowest x, y, z,
- * highest x, y, z. Refused 19 for words that are no state's, then 21, then 19,
- * fewer than LOVGURSHEM_COUNTS counts included; then nothing has changed. A
- * second report gives the same.
+ * highest x, y, z.
+ *
+ * marks has a number for each merged region, its stretch mark: the lowest index
+ * of its group in the merged list, counted from 0; past the regions marks is
+ * unchanged. Marks are equal exactly when a chain of neighbours joins two
+ * regions. Two regions are neighbours if on each line their ranges meet plainly
+ * or over the seam. Two ranges meet plainly if each starts at or before the
+ * other's end; over the seam if the line is asked for a whole turn (words 17,
+ * 18) and one starts at the asked lo while the other ends at the asked hi.
+ *
+ * Refused 19 for words that are no state's, then 21, then 19: for short nets,
+ * ranges, depths, raw, report or marks, for fewer than LOVGURSHEM_COUNTS counts
+ * and for a state that is no search's. Then nothing has changed, in marks too.
+ * A second report gives the same.
  */
 uint32_t lovgurshem_report(const uint64_t *state, size_t state_length,
     const double *nets1, size_t nets1_length,
@@ -223,6 +237,7 @@ uint32_t lovgurshem_report(const uint64_t *state, size_t state_length,
     const uint8_t *depths, size_t depths_length,
     double *raw, size_t raw_length,
     double *report, size_t report_length,
+    uint32_t *marks, size_t marks_length,
     uint64_t *counts, size_t counts_length);
 
 #ifdef __cplusplus

@@ -10,8 +10,12 @@ once a sheet. Answers are compared byte for byte with the first program's.
   --pieces      compare the nets of the pieces too (each program is run once a
                 sheet, with --pieces)
   --no-drawn    leave the drawn sheets out
-  --closed      with closed lines (document 02, M-100): the drawn ones too, and
-                every third of the random sheets
+  --level L     the level of document 02: 1 (document 01), 100 (closed lines) or
+                101 (stretch marks, the default). Sheets of higher levels are
+                left out, and below 101 the regions' marks are dropped from all
+                answers, the stored ones too. A program of document 01 alone
+                answers two drawn sheets of level 1 otherwise: first-kind-8 and
+                second-kind-8, which M-100 reads as closed lines
   --replay DIR  take the sheets from DIR/sheets.bin and hold every program
                 against DIR/answers.txt; SEED and N are left out
   --save DIR    where sheets with a difference are saved (default: .)
@@ -54,7 +58,7 @@ class Program:
             text = run([self.path, '--many'], two)
         except OSError as e:
             sys.exit('%s: %s' % (self.path, e))
-        return text == (sheets.EXAMPLE_ANSWER + '---\n') * 2
+        return sheets.unmarked(text) == sheets.unmarked(sheets.EXAMPLE_ANSWER + '---\n') * 2
 
     def answers(self, batch):
         if self.many:
@@ -89,10 +93,12 @@ def key_order(k):
 
 
 class Comparison:
-    def __init__(self, save):
+    def __init__(self, save, level):
         self.save = save
+        self.marked = level >= 101
         self.count = 0
         self.different = 0
+        self.groups = 0
         self.seen = collections.Counter()
 
     def difference(self, name, data, programs, texts):
@@ -115,8 +121,12 @@ class Comparison:
         names = [p.name for p in programs]
         for i, (name, d, wanted) in enumerate(items):
             texts = [l[i] for l in lists]
+            if not self.marked:
+                texts = [sheets.unmarked(t) for t in texts]
+                wanted = wanted and sheets.unmarked(wanted)
             self.count += 1
             self.seen[key(texts[0])] += 1
+            self.groups += self.marked and sheets.has_group(texts[0])
             if wanted is not None and any(t != wanted for t in texts):
                 self.difference(name, d, ['the list'] + names, [wanted] + texts)
             elif any(t != texts[0] for t in texts):
@@ -125,7 +135,8 @@ class Comparison:
     def summary(self):
         for k in sorted(self.seen, key=key_order):
             print('%7d  %s' % (self.seen[k], k))
-        print('%d sheets, %d different' % (self.count, self.different))
+        grouped = ', %d with a group' % self.groups if self.marked else ''
+        print('%d sheets%s, %d different' % (self.count, grouped, self.different))
 
 
 def replay(folder):
@@ -138,35 +149,33 @@ def replay(folder):
     return [('replay %d' % i, d, a) for i, (d, a) in enumerate(zip(data, answers))]
 
 
-def generated(seed, count, with_drawn, closed):
-    if with_drawn and closed:
-        for name, data in sheets.closed_drawn():
-            yield 'drawn ' + name, data, None
+def generated(seed, count, with_drawn, level):
     if with_drawn:
-        for name, data in sheets.drawn():
+        for name, data in sheets.drawn_up_to(level):
             wanted = sheets.EXAMPLE_ANSWER if name == 'example' else None
             yield 'drawn ' + name, data, wanted
-    for i, (kind, data) in enumerate(sheets.random_sheets(seed, count, closed)):
+    for i, (kind, data) in enumerate(sheets.random_sheets(seed, count, level)):
         yield 'random %d (%s, seed %d)' % (i, kind, seed), data, None
 
 
 def main(args):
-    flags = {'--pieces': False, '--no-drawn': False, '--closed': False, '--replay': None, '--save': '.'}
+    flags = {'--pieces': False, '--no-drawn': False, '--level': '101', '--replay': None, '--save': '.'}
     while args and args[0] in flags:
         flag = args.pop(0)
-        flags[flag] = args.pop(0) if flag in ('--replay', '--save') else True
+        flags[flag] = args.pop(0) if flag in ('--level', '--replay', '--save') else True
+    level = int(flags['--level'])
     if flags['--replay']:
         source = replay(flags['--replay'])
     elif len(args) >= 3:
         seed, count = int(args.pop(0)), int(args.pop(0))
-        source = generated(seed, count, not flags['--no-drawn'], flags['--closed'])
+        source = generated(seed, count, not flags['--no-drawn'], level)
     if not args:
         sys.exit(__doc__)
     if flags['--pieces'] and not flags['--replay']:
         source = ((name, data, None) for name, data, _ in source)
     programs = [Program(path, flags['--pieces']) for path in args]
     os.makedirs(flags['--save'], exist_ok=True)
-    comparison = Comparison(flags['--save'])
+    comparison = Comparison(flags['--save'], level)
     for items in batches(source):
         comparison.batch(items, programs)
     comparison.summary()

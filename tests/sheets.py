@@ -7,9 +7,11 @@
                                     32-bit length and the bytes
   sheets.py --replay DIR PROGRAM    writes DIR/sheets.bin and, from the answers
                                     of PROGRAM, DIR/answers.txt
-  sheets.py --closed ...            the same with closed lines (document 02,
-                                    M-100): --list, --many (every third sheet)
-                                    and --replay
+  sheets.py --level L ...           --list, --many and --replay at a level of
+                                    document 02: 1 (document 01, the default),
+                                    100 (closed lines) or 101 (stretch marks).
+                                    --list and --replay have that level's own
+                                    sheets, --many those of all levels up to it
 
 From another script:
 
@@ -157,7 +159,23 @@ EXAMPLE_ANSWER = (
     'unseparated pairs=1 visits=1 splits=0 settled=0 given=1 left=0 regions=1\n'
     'region 0000000000000000 3FF0000000000000 0000000000000000 3FF0000000000000'
     ' 0000000000000000 0000000000000000 0000000000000000 3FF0000000000000'
-    ' 0000000000000000 0000000000000000\n')
+    ' 0000000000000000 0000000000000000 0\n')
+
+
+def unmarked(answer):
+    """The answer as it was before M-101: a region's line is its word and ten floats."""
+    return '\n'.join(' '.join(l.split(' ')[:11]) if l.startswith('region ') else l for l in answer.split('\n'))
+
+
+def marks(answer):
+    """The marks of an answer's regions, in the order of the list; -1 for a line that has none."""
+    fields = [l.split(' ') for l in answer.split('\n') if l.startswith('region ')]
+    return [int(f[11]) if len(f) == 12 and f[11].isdigit() else -1 for f in fields]
+
+
+def has_group(answer):
+    """Whether a mark isn't its region's own place."""
+    return any(m not in (i, -1) for i, m in enumerate(marks(answer)))
 
 
 def example():
@@ -988,6 +1006,163 @@ def closed_drawn():
         yield 'example-' + name, make()
 
 
+# ---- drawn sheets with stretch marks (document 02, M-101) --------------------------
+
+OPPOSITE = ring(1, [0, 1, 2, 3, 4], [1] * 5, [(0, 0, 0), (-8, 0, 0), (-8, -8, 0), (0, -8, 0)])  # meets SQUARE at both seams
+DIAGONAL = segment((-1, 1, 0), (1, -1, 0))
+
+
+def loops(path):
+    """Degree 1 round the corner of SQUARE at its seam: a crosses the first side, b the last, c both,
+    at the corner; d after b goes round outside, after a through the corner."""
+    at = {'a': (1, 1, 0), 'b': (-1, 1, 0), 'c': (1, -1, 0), 'd': (-1, -1, 0), 'e': (1, -1, 0)}
+    return polyline([(1, -1, 0)] + [at[step] for step in path.replace('d', 'de')])
+
+
+def both_ways(name, a, b, S, ranges=(None, None), gap=0.0):
+    """The sheet and, as -back, the one with the lines changed over."""
+    yield name, sheet(a, b, S, ranges, gap)
+    yield name + '-back', sheet(b, a, S, ranges[::-1], gap)
+
+
+def seam_groups():
+    """Groups over the seam of the first line, of the second and of both; chains whose ends aren't
+    neighbours; groups beside other regions."""
+    for s in (0, 1, 5, 20, 60):
+        yield from both_ways('group-one-S%d' % s, SQUARE, DIAGONAL, s)
+        yield from both_ways('group-corners-S%d' % s, SQUARE, OPPOSITE, s)
+    # two regions that meet over both seams, and no others
+    quay = ring(1, range(5), [1] * 5, [(0, 0, 0), (0, 10, 0), (10, 10, 0), (10, 0, 0)])
+    pipe = ring(1, range(5), [1] * 5, [(5, -5, -6), (5, 5, 6), (-10, 20, 20), (-1, 7, 1.2)])
+    yield from both_ways('group-both-seams', quay, pipe, 0, gap=0.01)
+    # a, b, c: each round begins where the last one ended, so all are one chain
+    for path in ('ab', 'abc', 'abca', 'abcab', 'abcabc', 'abcabcab', 'bcab'):
+        for s in (0, 2):
+            yield from both_ways('chain-%s-S%d' % (path, s), SQUARE, loops(path), s)
+    # a, b, d: each round is a group by itself; a alone and b alone are in none
+    for path in ('abd', 'abdabd', 'abdabdabdabd', 'abdabdabdabdabdabd', 'abdad', 'adabd', 'abcdabd', 'adabdad', 'abdabcdab'):
+        for s in (0, 3, 67):
+            yield from both_ways('groups-%s-S%d' % (path, s), SQUARE, loops(path), s)
+    # a region between the members of a group, and one behind the last member's start
+    long = polyline([(-2, 1, 0), (2, -1, 0), (9, 4, 0), (7, 5, 0), (4, 9, 0), (3, 7, 0), (-1, 4, 0)])
+    for s in (0, 20, 60):
+        yield from both_ways('group-among-S%d' % s, SQUARE, long, s)
+    # one region from lo to hi
+    yield 'group-itself', sheet(SQUARE, SQUARE, S=0)
+
+
+SIDES = [0.0, 0.5, 0.75, 1.0]
+YARD = [(0, 0, 0), (8, 0, 0), (0, 6, 0)]
+
+
+def point_at(l, t):
+    """About where a closed line is at t of its turn; weights aside."""
+    p, n, turn = l.degree, len(l.poles), l.flat()[:len(l.poles)]
+    knot = lambda i: turn[i % n] + period(l) * (i // n)
+    s = max(i for i in range(n) if turn[i] <= t)
+    d = [l.poles[(s + 1 - l.mults[0] + j) % n] for j in range(p + 1)]
+    for r in range(1, p + 1):
+        for j in range(p, r - 1, -1):
+            lo, hi = knot(s - p + j), knot(s + 1 + j - r)
+            f = (t - lo) / (hi - lo) if hi > lo else 0.0
+            d[j] = tuple(x + f * (y - x) for x, y in zip(d[j - 1], d[j]))
+    return d[p]
+
+
+def across(l, t, reach=1.0):
+    """A short segment through the closed line's point at t."""
+    x, y, z = point_at(l, t)
+    return segment((x - reach, y + reach, z), (x + reach, y - reach, z))
+
+
+TURN_RANGES = {
+    'first': (0.0, 1.0), 'minus-zero': (-0.0, 1.0), 'inside': (0.25, 1.25), 'knot': (0.5, 1.5), 'last-side': (0.875, 1.875),
+    'less': (0.0, beside(1.0, -1)), 'inside-less': (0.25, beside(1.25, -1)), 'inside-later': (beside(0.25, 1), 1.25),
+    'inside-later-2': (beside(0.25, 2), 1.25), 'more': (0.25, beside(1.25, 1)), 'half': (0.25, 0.75),
+    # hi - lo rounds to the period; lo + period rounds below hi, and with the second there is no middle (18)
+    'rounds-longer': (0.25 + BINADE(-53), 1.25 + BINADE(-52)), 'rounds-longest': (BINADE(-53), 1 + BINADE(-52)),
+    # lo + period rounds to hi; hi - lo rounds below the period
+    'rounds-shorter': (0.125 + 3 * BINADE(-55), 1.125), 'first-shorter': (3 * BINADE(-55), 1.0)}
+
+
+def whole_turns():
+    """What a whole turn is, and where its seam: at the asked ends, of a closed line only."""
+    yard, fence = ring(1, SIDES, [1] * 4, YARD), polyline(YARD + YARD[:1], SIDES)
+    for name, r in TURN_RANGES.items():
+        for s in (0, 9):
+            yield from both_ways('turn-%s-S%d' % (name, s), yard, across(yard, r[0]), s, [r, None], 0.01)
+    for name in ('first', 'minus-zero', 'less', 'first-shorter'):
+        for s in (0, 9):
+            yield from both_ways('open-%s-S%d' % (name, s), fence, across(yard, 0.0), s, [TURN_RANGES[name], None], 0.01)
+    # four corners: one group if both are whole turns, two if one is, none if neither
+    less = (0.0, beside(4.0, -1))
+    around = polyline(OPPOSITE.poles + OPPOSITE.poles[:1])
+    for s in (0, 30):
+        yield from both_ways('corners-first-S%d' % s, SQUARE, OPPOSITE, s, [None, less], 0.01)
+        yield from both_ways('corners-none-S%d' % s, SQUARE, OPPOSITE, s, [less, less], 0.01)
+        yield from both_ways('corners-open-S%d' % s, SQUARE, around, s, gap=0.01)
+    # turns whose length rounds
+    for i, knots in enumerate(ROUNDING):
+        l = basin(1, 1, len(knots) - 1, knots)
+        for j, lo in enumerate([knots[0], knots[1], 0.5 * (knots[0] + knots[1]), 0.7 * knots[0] + 0.3 * knots[-1]]):
+            yield from both_ways('turn-rounded-%d-%d' % (i, j), l, across(l, lo), 0, [turn_from(l, lo), None], 0.01)
+
+
+def curved_turns():
+    """Rings of degree 2 to 5 with a seam at a pole or in a curve; weights."""
+    for degree in (2, 3, 5):
+        for seam in (1, degree):
+            l = basin(degree, seam, degree + 2)
+            for lo in (0.0, 0.375, 1.0):
+                for s in (0, 4):
+                    yield from both_ways('curved-%d-%d-%g-S%d' % (degree, seam, lo, s), l, across(l, lo, 2.0), s, [turn_from(l, lo), None], 0.1)
+            near = across(l, 0.0, 2.0)
+            l.weights = [1.0 + i % 3 * 0.5 for i in range(len(l.poles))]
+            yield from both_ways('curved-weights-%d-%d' % (degree, seam), l, near, 2, gap=0.5)
+
+
+def choose(n, k):
+    out = 1
+    for i in range(k):
+        out = out * (n - i) // (i + 1)
+    return out
+
+
+def product(f, g):
+    """Of two polynomials as whole numbers over the Bernstein polynomials times their binomials."""
+    out = [0] * (len(f) + len(g) - 1)
+    for i, x in enumerate(f):
+        for j, y in enumerate(g):
+            out[i + j] += x * y
+    return out
+
+
+def wave(degree, turns):
+    """A ring that passes the origin degree - 1 times a span, to and fro: (T, T (2t - 1)) with
+    Chebyshev's polynomial T of one degree less."""
+    n = degree - 1
+    t = [(-1) ** (n - i) * choose(2 * n, 2 * i) for i in range(n + 1)]
+    span = [(x / choose(degree, i), y / choose(degree, i), 0.0)
+            for i, (x, y) in enumerate(zip(product(t, [1, 1]), product(t, [-1, 1])))]
+    poles = (span[:-1] + span[:0:-1]) * (turns // 2)
+    return ring(degree, range(turns + 1), [degree] * (turns + 1), poles)
+
+
+def many_marks():
+    """Lists of over 10 and over 100 regions."""
+    point = segment((0, 0, 0), (BINADE(-40), 0, 0))
+    for degree, turns, lo, s in ((6, 2, 2 - 0.5, 200), (7, 4, 0.5, 100), (9, 6, 2.5, 100), (21, 6, 2 + 565423 * BINADE(-20), 116)):
+        l = wave(degree, turns)
+        yield from both_ways('wave-%d-%d' % (degree, turns), l, point, s, [turn_from(l, lo), None], 0.005)
+        yield 'wave-%d-%d-first' % (degree, turns), sheet(l, point, s, gap=0.005)
+
+
+def marked_drawn():
+    """All drawn sheets with stretch marks: (name, bytes)."""
+    for part in (seam_groups, whole_turns, curved_turns, many_marks):
+        yield from part()
+
+
 # ---- random sheets --------------------------------------------------------------
 
 
@@ -1556,6 +1731,83 @@ CLOSED_KINDS = [(kind_rings, 40), (kind_ring_doubles, 30), (kind_ring_spoilt, 12
                 (kind_ring_pieces, 10)]
 
 
+def seam_ring(rng):
+    """A ring of few spans, and where its turn starts."""
+    degree = rng.pick([1, 1, 1, 1, 2, 3, 4])
+    n = max(2 + rng.below(5), 2 if degree == 1 else degree)
+    l = basin(degree, rng.pick([1, degree]), n, inner=rng.pick([1, 1, degree]))
+    while len(l.poles) <= degree:
+        l = basin(degree, degree, n + 1)
+    way = rng.below(3)
+    if way == 0:
+        l.poles = [tuple(random_coordinate(rng, 'fine') * 4 for _ in range(3)) for _ in l.poles]
+    elif way == 1:
+        l.poles = [(x * (1 + i % 2), y, 0.0) for i, (x, y, _) in enumerate(l.poles)]
+    if rng.chance(0.3):
+        l.knots = ring_knots(rng, len(l.knots))
+    if rng.chance(0.1):
+        l.weights = random_weights(rng, len(l.poles))
+    first, last = l.bounds()
+    lo = rng.pick([first, first, l.knots[rng.below(len(l.knots) - 1)], 0.5 * (l.knots[0] + l.knots[1]), rng.between(first, last)])
+    return l, lo if first <= lo < last else first
+
+
+def seam_range(rng, l, lo):
+    """A turn from lo, as a rule a whole one; or a few doubles more or less, or a part."""
+    lo, hi = turn_from(l, lo)
+    way = rng.below(10)
+    if way == 0:
+        return (lo, beside(hi, -1 - rng.below(2)))
+    if way == 1:
+        return (lo, beside(hi, 1)) if rng.chance(0.5) else (beside(lo, 1 + rng.below(3)), hi)
+    if way == 2:
+        return (lo, lo + (hi - lo) * rng.pick([0.5, 0.75, rng.unit()]))
+    return (lo, hi)
+
+
+def kind_turns(rng):
+    """A ring, and an open line that passes the ring's seam, once or more often."""
+    l, lo = seam_ring(rng)
+    at = point_at(l, lo)
+    near = lambda reach: tuple(x + reach * random_coordinate(rng, 'unit') for x in at[:2]) + (at[2],)
+    way = rng.below(4)
+    if way == 0:
+        other = across(l, lo, rng.pick([0.5, 1.0, 4.0]))
+    elif way == 1:
+        p = near(1.0)
+        other = segment(p, tuple(2 * x - y for x, y in zip(at, p)))
+    else:
+        other = polyline([near(rng.pick([0.5, 2.0])) for _ in range(3 + rng.below(5))])
+    pair, ranges = [l, other], [seam_range(rng, l, lo), None]
+    if rng.chance(0.5):
+        pair, ranges = pair[::-1], ranges[::-1]
+    return sheet(pair[0], pair[1], rng.pick([0, 0, 0, 1, 2, 3, 5, 10, 30, 60]), ranges, rng.pick([0.0, 0.01, 0.1, 0.1, 0.5]))
+
+
+def kind_two_turns(rng):
+    """Two rings whose seams are one place, or beside each other."""
+    (a, p), (b, q) = seam_ring(rng), seam_ring(rng)
+    off = [x - y for x, y in zip(point_at(a, p), point_at(b, q))]
+    if rng.chance(0.2):
+        off[rng.below(3)] += rng.pick([0.25, -0.5, 2.0])
+    b.poles = in_limits([tuple(x + y for x, y in zip(pole, off)) for pole in b.poles])
+    return sheet(a, b, rng.pick([0, 0, 0, 1, 1, 2, 5, 20, 60]), [seam_range(rng, a, p), seam_range(rng, b, q)],
+                 rng.pick([0.0, 0.01, 0.1]))
+
+
+def kind_loops(rng):
+    """Rounds about the corner of a square at its seam: several groups and chains."""
+    path = ''.join(rng.pick(['abd', 'abd', 'abc', 'ad', 'bc', 'a', 'b', 'abcabd']) for _ in range(1 + rng.below(5)))
+    pair = [SQUARE, loops(path)]
+    ranges = [rng.pick([None, None, None, seam_range(rng, SQUARE, 0.0), turn_from(SQUARE, 3.5)]), None]
+    if rng.chance(0.5):
+        pair, ranges = pair[::-1], ranges[::-1]
+    return sheet(pair[0], pair[1], rng.pick([0, 0, 1, 2, 3, 8, 20, 60]), ranges, rng.pick([0.0, 0.0, 0.01]))
+
+
+MARKED_KINDS = [(kind_turns, 50), (kind_two_turns, 30), (kind_loops, 20)]
+
+
 def random_sheet(rng, kinds):
     """(kind, bytes) of one random sheet."""
     at = rng.below(sum(n for _, n in kinds))
@@ -1565,11 +1817,11 @@ def random_sheet(rng, kinds):
         at -= n
 
 
-def random_sheets(seed, count, closed=False):
-    """`count` random sheets; sheet i depends on the seed and i alone. With closed
-    lines if asked for: those at 0, 3, 6, ..; the others stay."""
+def random_sheets(seed, count, level=1):
+    """`count` random sheets; sheet i depends on the seed, i and the level alone. From level 100 on
+    those at 0, 3, 6, .. have closed lines, from 101 on those at 1, 4, 7, .. turns; the others stay."""
     for i in range(count):
-        kinds = CLOSED_KINDS if closed and i % 3 == 0 else KINDS
+        kinds = CLOSED_KINDS if level >= 100 and i % 3 == 0 else MARKED_KINDS if level >= 101 and i % 3 == 1 else KINDS
         yield random_sheet(Rng(seed * 1000003 + i), kinds)
 
 
@@ -1621,20 +1873,51 @@ CLOSED_GROUPS = [(turns, 4), (seam_spans, 1), (seams, 1), (rounded_periods, 2), 
                  (closed_memory, 1), (closed_words, 1)]
 
 
-def closed_replay_sheets(program):
-    """(bytes, answer) of the replay list with closed lines: drawn sheets, thinned
-    by group, then random ones, a few of each bucket."""
-    for group, every in CLOSED_GROUPS:
+MARKED_SEED, MARKED_TRIED, MARKED_BYTES, MARKED_TEXT = 101, 6000, 1200, 1600
+MARKED_GROUPS = [(seam_groups, 1), (whole_turns, 1), (curved_turns, 3), (many_marks, 3)]
+
+
+def thinned(program, groups):
+    """(bytes, answer) of drawn sheets, of each group every so many."""
+    for group, every in groups:
         for i, (_, data) in enumerate(group()):
             if i % every == 0:
                 yield data, answer_of(program, data)
+
+
+def marked_bucket(kind, answer):
+    """The bucket with the regions, the groups and the largest group."""
+    m = marks(answer)
+    sizes = [m.count(k) for k in set(m)]
+    return bucket(kind, answer)[0][:2] + (min(len(m), 6), min(len(sizes), 4), min(max(sizes, default=0), 4))
+
+
+def marked_replay_sheets(program):
+    """(bytes, answer) of the replay list with stretch marks: drawn sheets, thinned by group, then random
+    ones, one of each bucket."""
+    yield from thinned(program, MARKED_GROUPS)
+    taken = set()
+    for i, (kind, data) in enumerate(random_sheets(MARKED_SEED, MARKED_TRIED, 101)):
+        if i % 3 != 1 or len(data) > MARKED_BYTES:
+            continue
+        answer = answer_of(program, data)
+        at = marked_bucket(kind, answer)
+        if at not in taken and len(unmarked(answer)) <= MARKED_TEXT:
+            taken.add(at)
+            yield data, answer
+
+
+def closed_replay_sheets(program):
+    """(bytes, answer) of the replay list with closed lines: drawn sheets, thinned
+    by group, then random ones, a few of each bucket."""
+    yield from thinned(program, CLOSED_GROUPS)
     taken = {}
-    for i, (kind, data) in enumerate(random_sheets(CLOSED_SEED, CLOSED_TRIED, closed=True)):
+    for i, (kind, data) in enumerate(random_sheets(CLOSED_SEED, CLOSED_TRIED, 100)):
         if i % 3 != 0 or len(data) > CLOSED_BYTES:
             continue
         answer = answer_of(program, data)
         at, most = bucket(kind, answer)
-        if taken.get(at, 0) < most and len(answer) <= CLOSED_TEXT:
+        if taken.get(at, 0) < most and len(unmarked(answer)) <= CLOSED_TEXT:
             taken[at] = taken.get(at, 0) + 1
             yield data, answer
 
@@ -1655,7 +1938,7 @@ def replay_sheets(program):
             continue
         answer = answer_of(program, data)
         at, most = bucket(kind, answer)
-        if taken.get(at, 0) < most and len(answer) <= REPLAY_TEXT:
+        if taken.get(at, 0) < most and len(unmarked(answer)) <= REPLAY_TEXT:
             taken[at] = taken.get(at, 0) + 1
             yield data, answer
     for group in REPLAY_LAST:
@@ -1675,19 +1958,33 @@ def write_replay(folder, listed):
     print('%d sheets' % count)
 
 
+DRAWN = {1: drawn, 100: closed_drawn, 101: marked_drawn}
+REPLAYS = {1: replay_sheets, 100: closed_replay_sheets, 101: marked_replay_sheets}
+
+
+def drawn_up_to(level):
+    """The drawn sheets of all levels up to this one: (name, bytes)."""
+    for at, group in DRAWN.items():
+        if at <= level:
+            yield from group()
+
+
 def main(args):
-    closed = args[:1] == ['--closed']
-    args = args[1:] if closed else args
-    if args[:1] == ['--examples'] and len(args) == 2 and not closed:
+    level = 1
+    if args[:1] == ['--level'] and len(args) > 2 and args[1].isdigit():
+        level, args = int(args[1]), args[2:]
+    if level not in DRAWN:
+        sys.exit(__doc__)
+    if args[:1] == ['--examples'] and len(args) == 2:
         write_examples(args[1])
     elif args == ['--list']:
-        for name, data in closed_drawn() if closed else drawn():
+        for name, data in DRAWN[level]():
             print(len(data), name)
     elif args[:1] == ['--many'] and len(args) == 3:
-        for _, data in random_sheets(int(args[1]), int(args[2]), closed):
+        for _, data in random_sheets(int(args[1]), int(args[2]), level):
             sys.stdout.buffer.write(packed(data))
     elif args[:1] == ['--replay'] and len(args) == 3:
-        write_replay(args[1], closed_replay_sheets(args[2]) if closed else replay_sheets(args[2]))
+        write_replay(args[1], REPLAYS[level](args[2]))
     else:
         sys.exit(__doc__)
 

@@ -1,4 +1,4 @@
-"""The model in C answers the stored sheets, those with closed lines too, as the Rust did."""
+"""The model in C answers the stored sheets, those with closed lines and with stretch marks too, as the Rust did."""
 import pathlib
 import shutil
 import subprocess
@@ -14,6 +14,6 @@ bad = 0
 with tempfile.TemporaryDirectory() as folder:
     program = f"{folder}/clearance"
     subprocess.run([compiler, "-O2", "-std=c99", "-ffp-contract=off", "-o", program, ROOT / "tests/model/clearance.c", "-lm"], check=True)
-    for answers in ["answers", "answers100"]:
+    for answers in ["answers", "answers100", "answers101"]:
         bad |= subprocess.run([sys.executable, "-B", ROOT / "tests/compare.py", "--save", folder, "--replay", ROOT / "tests" / answers, program]).returncode
 sys.exit(bad)

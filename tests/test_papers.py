@@ -49,6 +49,12 @@ for paper in ["README.md", *sorted(str(p.relative_to(ROOT)) for p in ROOT.glob("
     text = (ROOT / paper).read_text()
     if re.search(r"https?://", text):
         bad.append(f"{paper} names a host")
+# the longest answer: its definition, the code's buffers and the header
+length = {n: int(v) for n, v in re.findall(r"^(countsLength|regionLength|lentRegions) = (\d+)$", texts, re.M)}
+longest = length["countsLength"] + length["lentRegions"] * length["regionLength"]
+for file, form in (("include/lovgurshem.h", "#define LOVGURSHEM_ANSWER %d\n"), ("crates/clearance/src/main.rt", "[0u8; %d]"), ("crates/sheet/src/lib.rt", "out.len() < %d ")):
+    if form % longest not in (ROOT / file).read_text():
+        bad.append(f"{file} has not {longest} bytes for the longest answer")
 for line in bad:
     print(line)
 print(f"papers: {len(crates)} crates, {len(bad)} faults")

@@ -34,6 +34,7 @@ enum { PIECES1 = 9, PIECES2 = 3, PAIRS = PIECES1 * PIECES2, NODES = PAIRS + 64, 
 static double pieces1[4 * WIDTH1 * PIECES1], pieces2[4 * WIDTH2 * PIECES2];
 static double nets1[4 * WIDTH1 * NODES], nets2[4 * WIDTH2 * NODES], ranges[4 * NODES];
 static double raw[10 * PAIRS * (SPLITS + 1)], report[10 * PAIRS * (SPLITS + 1)];
+static uint32_t marks[PAIRS * (SPLITS + 1)];
 static uint8_t depths[NODES];
 static uint64_t state[LOVGURSHEM_STATE], counts[LOVGURSHEM_COUNTS];
 
@@ -74,7 +75,7 @@ static void print_report(void)
     for (uint64_t i = 0; i < counts[8]; i++) {
         printf("region");
         for (int j = 0; j < 10; j++) printf(" %016" PRIX64, bits(report[10 * i + j]));
-        printf("\n");
+        printf(" %" PRIu32 "\n", marks[i]);
     }
 }
 
@@ -104,7 +105,7 @@ int main(int argc, char **argv)
     no = take_steps();
     if (no == 20)
         no = lovgurshem_report(SLICE(state), SLICE(nets1), SLICE(nets2), SLICE(ranges), SLICE(depths),
-            SLICE(raw), SLICE(report), SLICE(counts));
+            SLICE(raw), SLICE(report), SLICE(marks), SLICE(counts));
     if (no != 0) {
         printf("refused %u 0\n", (unsigned)no);
         return 1;

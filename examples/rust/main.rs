@@ -37,14 +37,14 @@ mod sys {
             nets1: *const f64, nets1_length: usize, nets2: *const f64, nets2_length: usize,
             ranges: *const f64, ranges_length: usize, depths: *const u8, depths_length: usize,
             raw: *mut f64, raw_length: usize, report: *mut f64, report_length: usize,
-            counts: *mut u64, counts_length: usize,
+            marks: *mut u32, marks_length: usize, counts: *mut u64, counts_length: usize,
         ) -> u32;
     }
 }
 
 /// The answer to a sheet, as printed.
 fn answer(sheet: &[u8]) -> Vec<u8> {
-    let mut out = vec![0u8; 145_169];
+    let mut out = vec![0u8; 162_368];
     let n = unsafe { sys::lovgurshem_answer(sheet.as_ptr(), sheet.len(), out.as_mut_ptr(), out.len()) };
     out.truncate(n);
     out
@@ -128,33 +128,34 @@ impl Search {
         if no == 0 { Ok(()) } else { Err(no) }
     }
 
-    /// The counts and the merged regions, ten numbers each.
-    fn report(&mut self) -> Result<([u64; 9], Vec<f64>), Refused> {
-        let (mut counts, mut list) = ([0; 9], vec![0.0; self.raw.len()]);
+    /// The counts, the merged regions, ten numbers each, and their marks.
+    fn report(&mut self) -> Result<([u64; 9], Vec<f64>, Vec<u32>), Refused> {
+        let (mut counts, mut list, mut marks) = ([0; 9], vec![0.0; self.raw.len()], vec![0; self.raw.len() / 10]);
         let no = unsafe {
             sys::lovgurshem_report(
                 self.state.as_ptr(), self.state.len(),
                 self.nets1.as_ptr(), self.nets1.len(), self.nets2.as_ptr(), self.nets2.len(),
                 self.ranges.as_ptr(), self.ranges.len(), self.depths.as_ptr(), self.depths.len(),
                 self.raw.as_mut_ptr(), self.raw.len(), list.as_mut_ptr(), list.len(),
-                counts.as_mut_ptr(), counts.len(),
+                marks.as_mut_ptr(), marks.len(), counts.as_mut_ptr(), counts.len(),
             )
         };
         list.truncate(10 * counts[8] as usize);
-        if no == 0 { Ok((counts, list)) } else { Err(no) }
+        marks.truncate(counts[8] as usize);
+        if no == 0 { Ok((counts, list, marks)) } else { Err(no) }
     }
 }
 
-fn print_report(counts: &[u64; 9], list: &[f64]) {
+fn print_report(counts: &[u64; 9], list: &[f64], marks: &[u32]) {
     let word = ["complete", "budget", "unseparated"][counts[0] as usize];
     println!(
         "{word} pairs={} visits={} splits={} settled={} given={} left={} regions={}",
         counts[1], counts[2], counts[3], counts[4], counts[5], counts[6], counts[8]
     );
-    for region in list.chunks(10) {
+    for (region, mark) in list.chunks(10).zip(marks) {
         let bits = |x: &f64| if *x == 0.0 { 0 } else { x.to_bits() };
         let digits: Vec<String> = region.iter().map(|x| format!("{:016X}", bits(x))).collect();
-        println!("region {}", digits.join(" "));
+        println!("region {} {mark}", digits.join(" "));
     }
 }
 
@@ -168,8 +169,8 @@ fn search(track: &Line, outfall: &Line) -> Result<(), Refused> {
             Err(no) => return Err(no),
         }
     }
-    let (counts, list) = s.report()?;
-    print_report(&counts, &list);
+    let (counts, list, marks) = s.report()?;
+    print_report(&counts, &list, &marks);
     Ok(())
 }
 

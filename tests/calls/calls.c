@@ -9,8 +9,9 @@
  * any verdict, own verdicts, runs and reports. A call may be lent too short a
  * start of a slice, too few words of a state or of counts, or a state with any
  * of its words forged; in two lists of three states are forged that may pass,
- * and in one of three the memory too. Prints counts of each kind of call by
- * number, and differences; exits 1 if there is one.
+ * with any terms (whole turns, asked ends), and in one of three the memory too.
+ * Prints counts of each kind of call by number, of groups of regions, and
+ * differences; exits 1 if there is one.
  *
  * Free: the bits of a NaN, and the sign of a zero least or greatest.
  * Left out, as 01 says nothing of it: NaN in ranges (how it sorts).
@@ -58,12 +59,13 @@ static const char *slice_name[] = { "pieces1", "pieces2", "nets1", "nets2", "ran
 typedef struct {
     double *f[SLICES];
     uint8_t *depths;
+    uint32_t *marks;
 } World;
 
 static World lib, model;
-static size_t cap[SLICES], depth_cap;
+static size_t cap[SLICES], depth_cap, mark_cap;
 static const size_t room[SLICES] = { 16384, 16384, 131072, 131072, 16384, 65536, 65536 };
-enum { GUARD = 16, DEPTHS = 4096 };
+enum { GUARD = 16, DEPTHS = 4096, MARKS = 8192 };
 
 static void new_worlds(void)
 {
@@ -73,6 +75,8 @@ static void new_worlds(void)
     }
     lib.depths = malloc(DEPTHS + GUARD);
     model.depths = malloc(DEPTHS + GUARD);
+    lib.marks = malloc((MARKS + GUARD) * sizeof(uint32_t));
+    model.marks = malloc((MARKS + GUARD) * sizeof(uint32_t));
 }
 
 static double filler(int slice, int wild)
@@ -89,14 +93,16 @@ static void fill_worlds(int wild)
             lib.f[i][j] = model.f[i][j] = filler(i, wild);
     for (size_t j = 0; j < depth_cap + GUARD; j++)
         lib.depths[j] = model.depths[j] = (uint8_t)(one_in(4) ? chance() : below(66));
+    for (size_t j = 0; j < mark_cap + GUARD; j++)
+        lib.marks[j] = model.marks[j] = one_in(2) ? (uint32_t)chance() : (uint32_t)below(9);
 }
 
-static Lent lend(World *w, const size_t n[SLICES], size_t depths)
+static Lent lend(World *w, const size_t n[SLICES], size_t depths, size_t marks)
 {
     Lent m = { { { w->f[PIECES1], n[PIECES1] }, { w->f[PIECES2], n[PIECES2] } },
                { { w->f[NETS1], n[NETS1] }, { w->f[NETS2], n[NETS2] } },
                { w->f[RANGES], n[RANGES] }, { w->f[RAW], n[RAW] },
-               { w->f[REPORT], n[REPORT] }, { w->depths, depths } };
+               { w->f[REPORT], n[REPORT] }, { w->depths, depths }, { w->marks, marks } };
     return m;
 }
 
@@ -108,6 +114,8 @@ static const char *kind_name[] = { "open", "step Settled", "step Split", "step U
 static uint64_t counts[KINDS][32], calls, differences, forged_calls, short_calls, forged_passed;
 static uint64_t list_number, call_number, lists_seed;
 static uint64_t halved[2], deep, stopped, merged_regions, raw_regions;
+static uint64_t groups[2], turned, whole_openings;
+static int forged; /* whether the call's state is forged */
 static uint64_t spoiled[STATE_WORDS], spoiled_passed[STATE_WORDS], few_words, few_counts, odd_gaps, wide_verdicts;
 
 static State last; /* the state of the last call */
@@ -150,6 +158,13 @@ static void compare_worlds(int kind, uint64_t merged)
         differs(kind, "depths", 0, 0);
         memcpy(lib.depths, model.depths, depth_cap + GUARD);
     }
+    for (size_t j = 0; j < mark_cap + GUARD; j++)
+        if (lib.marks[j] != model.marks[j]) {
+            char what[32];
+            snprintf(what, sizeof what, "marks[%lu]", (unsigned long)j);
+            differs(kind, what, lib.marks[j], model.marks[j]);
+            memcpy(lib.marks, model.marks, (mark_cap + GUARD) * sizeof(uint32_t));
+        }
 }
 
 static void compare_number(int kind, const char *what, uint64_t a, uint64_t b)
@@ -164,13 +179,14 @@ static uint64_t words[2][WORDS];
 static size_t words_lent;
 static int spoiled_word; /* which one, or -1 */
 
-/* What a word's bits hold at most; a width is 2 to 26, word 11 is a gap, and
- * words 12 to 22 have no bits. */
-static const uint64_t most[LOVGURSHEM_STATE] = { 0xFFFF, 0xFFFF, 0xFFFFFFFF, UINT64_MAX, 0xFFFFFFFF, 0xFFFFFFFF, 0xFFFFFFFF, 0xFFFFFFFF, 26, 26, 1, UINT64_MAX };
+/* What a word's bits hold at most; a width is 2 to 26, word 11 is a gap, words
+ * 12 to 16 have no bits, and 19 to 22 are ends of ranges. */
+static const uint64_t most[LOVGURSHEM_STATE] = { 0xFFFF, 0xFFFF, 0xFFFFFFFF, UINT64_MAX, 0xFFFFFFFF, 0xFFFFFFFF, 0xFFFFFFFF, 0xFFFFFFFF, 26, 26, 1, UINT64_MAX,
+                                                 0, 0, 0, 0, 0, 1, 1, UINT64_MAX, UINT64_MAX, UINT64_MAX, UINT64_MAX };
 
-/* Any pattern of a gap: infinite, negative, a zero, a NaN with any sign and
+/* Any pattern of a float: infinite, negative, a zero, a NaN with any sign and
  * payload, quiet or not. */
-static uint64_t odd_gap(void)
+static uint64_t odd_bits(void)
 {
     uint64_t sign = (uint64_t)one_in(2) << 63;
     switch (below(5)) {
@@ -185,10 +201,10 @@ static uint64_t odd_gap(void)
 static uint64_t odd_word(int i, uint64_t word)
 {
     static const uint64_t widths[] = { 0, 1, 2, 26, 27, 28, 255, 256, 258, 282 };
-    if (i == 11) return odd_gap();
+    if (i == 11 || i >= 19) return odd_bits();
     if ((i == 8 || i == 9) && !one_in(4)) return widths[below(10)];
     switch (below(7)) {
-    case 0: return i > 11 ? 1 : most[i];
+    case 0: return i > 11 && i < 17 ? 1 : most[i];
     case 1: case 2: return most[i] + 1;
     case 3: return UINT64_MAX - (one_in(2) ? 0 : below(9));
     case 4: return (uint64_t)1 << below(64);
@@ -228,8 +244,8 @@ static void compare_words(int kind, int refused)
     if (spoiled_word >= 0) spoiled_passed[spoiled_word] += !refused;
 }
 
-/* The state after a call that wasn't refused; a gap word that was forged for
- * the call is kept by it. */
+/* The state after a call that wasn't refused; a gap or an end that was forged
+ * for the call is kept by it. */
 static void next_state(State *s)
 {
     if (!read_words(words[1], WORDS, s)) differs(RUN, "the words are no state's", 0, 0);
@@ -252,21 +268,21 @@ static void choose_lent(const State *s)
     last = *s;
     uint64_t nodes = (uint64_t)s->pairs + 64;
     uint64_t raw = 10 * (uint64_t)s->pairs * ((uint64_t)s->quota + 1);
-    uint64_t need[SLICES + 1] = { 0, 0, nodes * 4 * s->width[0], nodes * 4 * s->width[1], 4 * nodes, raw, raw, nodes };
-    size_t n[SLICES + 1];
+    uint64_t need[SLICES + 2] = { 0, 0, nodes * 4 * s->width[0], nodes * 4 * s->width[1], 4 * nodes, raw, raw, nodes, raw / 10 };
+    size_t n[SLICES + 2];
     int exact = one_in(3);
-    for (int i = 0; i <= SLICES; i++) {
-        size_t most = i == SLICES ? depth_cap : cap[i];
+    for (int i = 0; i < SLICES + 2; i++) {
+        size_t most = i == SLICES ? depth_cap : i > SLICES ? mark_cap : cap[i];
         n[i] = exact && need[i] < most ? need[i] : most;
     }
     if (one_in(8)) {
-        int i = (int)(NETS1 + below(SLICES + 1 - NETS1));
+        int i = (int)(NETS1 + below(SLICES + 2 - NETS1));
         size_t least = need[i] < n[i] ? need[i] : n[i];
         short_calls++;
         n[i] = one_in(3) ? below(least + 1) : one_in(8) ? 0 : least > 0 ? least - 1 : 0;
     }
-    lent[0] = lend(&lib, n, n[SLICES]);
-    lent[1] = lend(&model, n, n[SLICES]);
+    lent[0] = lend(&lib, n, n[SLICES], n[SLICES + 1]);
+    lent[1] = lend(&model, n, n[SLICES], n[SLICES + 1]);
 }
 
 /* ---- calls ------------------------------------------------------------- */
@@ -340,6 +356,16 @@ static void do_run(State *s)
     compare_worlds(RUN, 0);
 }
 
+/* Reports by whether a mark isn't its place, with a whole turn of the search's
+ * own or with forged terms. */
+static void count_groups(uint64_t merged)
+{
+    int grouped = 0;
+    for (uint64_t i = 0; i < merged; i++) grouped |= model.marks[i] != i;
+    groups[forged] += (uint64_t)grouped;
+    turned += words[1][17] || words[1][18];
+}
+
 static void do_report(const State *s)
 {
     static const char *name[] = { "counts 0", "counts 1", "counts 2", "counts 3", "counts 4", "counts 5", "counts 6", "counts 7", "counts 8", "counts behind" };
@@ -355,7 +381,7 @@ static void do_report(const State *s)
     }
     for (int i = 0; i <= LOVGURSHEM_COUNTS; i++) told[0][i] = told[1][i] = UNTOUCHED;
     uint32_t got = lovgurshem_report(words[0], words_lent, PART(a->nets[0]), PART(a->nets[1]), PART(a->ranges),
-        PART(a->depths), PART(a->raw), PART(a->report), told[0], told_lent);
+        PART(a->depths), PART(a->raw), PART(a->report), PART(a->marks), told[0], told_lent);
     no = call_report(words[1], words_lent, &lent[1], told[1], told_lent);
     compare_number(TELL, "answer", got, (uint64_t)no);
     compare_words(TELL, no);
@@ -364,6 +390,7 @@ static void do_report(const State *s)
         merged = told[1][8];
         merged_regions += merged;
         raw_regions += told[1][5] + told[1][6];
+        count_groups(merged);
     }
     count(TELL, no);
     compare_worlds(TELL, merged);
@@ -475,8 +502,8 @@ static int do_open(State *s, int spoil)
         if (i <= PIECES2 && !one_in(4)) n[i] = (1 + below(4)) * 4 * (d[i].given.degree % 32 + 1) - below(2);
         if (n[i] > (i == SLICES ? depth_cap : cap[i])) n[i] = 0;
     }
-    lent[0] = lend(&lib, n, n[SLICES]);
-    lent[1] = lend(&model, n, n[SLICES]);
+    lent[0] = lend(&lib, n, n[SLICES], mark_cap);
+    lent[1] = lend(&model, n, n[SLICES], mark_cap);
     hand_words(NULL);
     Lent *a = &lent[0];
 #define LINE(g) (g).closed, (g).degree, (g).knots, (g).knot_count, (g).mults, (g).mult_count, (g).coords, (g).coord_count, (g).weights, (g).weight_count
@@ -487,7 +514,10 @@ static int do_open(State *s, int spoil)
     int no = call_open(both, (const double (*)[2])range, gap, splits, &lent[1], words[1], words_lent);
     compare_number(OPEN, "answer", got, (uint64_t)no);
     compare_words(OPEN, no);
-    if (no == 0) next_state(s);
+    if (no == 0) {
+        next_state(s);
+        whole_openings += s->turn[0].whole || s->turn[1].whole;
+    }
     count(OPEN, no & 255);
     compare_worlds(OPEN, 0);
     return no;
@@ -509,7 +539,7 @@ static uint64_t bent(uint64_t x, uint64_t most)
 static void bend(State *s)
 {
     static const uint8_t widths[] = { 0, 1, 2, 26, 27, 255 };
-    switch (below(14)) {
+    switch (below(16)) {
     case 0: s->pairs = (uint16_t)bent(s->pairs, UINT16_MAX); break;
     case 1: s->quota = (uint16_t)bent(s->quota, UINT16_MAX); break;
     case 2: s->waiting = one_in(3) ? s->pairs + (uint32_t)below(70) : (uint32_t)bent(s->waiting, UINT32_MAX); break;
@@ -520,7 +550,7 @@ static void bend(State *s)
     case 7: s->given = (uint32_t)bent(s->given, UINT32_MAX); break;
     case 8: s->width[0] = one_in(3) ? (uint8_t)bent(s->width[0], 255) : widths[below(6)]; break;
     case 9: s->width[1] = one_in(3) ? (uint8_t)bent(s->width[1], 255) : widths[below(6)]; break;
-    case 10: s->gap = float_of(odd_gap()); break;
+    case 10: s->gap = float_of(odd_bits()); break;
     case 11: /* sums that are right in 32 bits only */
         s->settled += 0x80000000;
         s->given += 0x80000000;
@@ -532,7 +562,23 @@ static void bend(State *s)
         s->unspent = -n;
         break;
     }
-    default: s->stopped = !s->stopped; break;
+    case 13: s->stopped = !s->stopped; break;
+    case 14: s->turn[below(2)].whole ^= 1; break;
+    default: *(one_in(2) ? &s->turn[below(2)].lo : &s->turn[below(2)].hi) = float_of(odd_bits()); break;
+    }
+}
+
+/* Terms that regions meet: whole turns whose ends are a start and an end among
+ * the raw regions and the ranges, zeros of either sign. */
+static void invent_terms(State *s)
+{
+    for (int i = 0; i < 2; i++) {
+        size_t a = below(8), b = below(8);
+        const double *from = one_in(2) ? model.f[RAW] + 10 * a : model.f[RANGES] + 4 * a;
+        const double *to = one_in(2) ? model.f[RAW] + 10 * b : model.f[RANGES] + 4 * b;
+        s->turn[i] = (Turn){ !one_in(4), from[2 * i], to[2 * i + 1] };
+        if (s->turn[i].lo == 0.0 && one_in(2)) s->turn[i].lo = -s->turn[i].lo;
+        if (s->turn[i].hi == 0.0 && one_in(2)) s->turn[i].hi = -s->turn[i].hi;
     }
 }
 
@@ -556,7 +602,8 @@ static void invent(State *s)
     if (one_in(3)) s->width[below(2)] = (uint8_t)(one_in(8) ? below(256) : 2 + below(25));
     for (int i = 0; i < 2; i++)
         while (s->width[i] > 3 && (s->pairs + 64u) * 4 * s->width[i] > cap[NETS1 + i] && !one_in(20)) s->width[i] /= 2;
-    if (one_in(6)) s->gap = float_of(odd_gap());
+    if (one_in(6)) s->gap = float_of(odd_bits());
+    if (!one_in(3)) invent_terms(s);
     if (s->waiting > 0) {
         size_t top = s->waiting - 1;
         uint8_t least_depth = s->waiting > s->pairs ? (uint8_t)(s->waiting - s->pairs) : 0;
@@ -577,6 +624,26 @@ static void forge_memory(const State *s)
         if (one_in(2) && top < depth_cap) {
             static const uint8_t d[] = { 0, 1, 62, 63, 64, 65, 255 };
             lib.depths[top] = model.depths[top] = d[below(7)];
+        }
+    }
+}
+
+/* An ended search with a few regions in a grid of cells, 0 to 4 on each line,
+ * most of them apart: the first cell starts where the asked range does, the
+ * last ends where it ends. Or the ends are any cells', also falling. */
+static void forge_regions(State *s)
+{
+    uint32_t n = 1 + (uint32_t)below(14);
+    *s = (State){ .pairs = (uint16_t)n, .quota = (uint16_t)below(3), .visits = n, .given = n, .width = { 2, 2 }, .stopped = one_in(2) };
+    s->unspent = (uint32_t)s->quota * n;
+    for (int i = 0; i < 2; i++) {
+        s->turn[i] = (Turn){ !one_in(3), one_in(2) ? 0.0 : -0.0, 4.0 };
+        if (one_in(6)) s->turn[i].lo = (double)below(4), s->turn[i].hi = (double)below(4) + 0.5;
+        if (one_in(8)) *(one_in(2) ? &s->turn[i].lo : &s->turn[i].hi) = float_of(odd_bits());
+        for (size_t k = 0; k < n; k++) {
+            double cell = (double)below(4), *a = lib.f[RAW] + 10 * k + 2 * i, *b = model.f[RAW] + 10 * k + 2 * i;
+            a[0] = b[0] = cell == 0.0 && one_in(2) ? -0.0 : cell;
+            a[1] = b[1] = cell == 3.0 || one_in(6) ? cell + 1.0 : cell + 0.5;
         }
     }
 }
@@ -605,7 +672,7 @@ static void one_call(State *s, int bias)
         Lent m;
         size_t n[SLICES];
         memcpy(n, cap, sizeof n);
-        m = lend(&model, n, depth_cap);
+        m = lend(&model, n, depth_cap, mark_cap);
         if (readable(s)) own_verdict(s, &m, &v);
         do_step(s, v);
     }
@@ -632,6 +699,7 @@ static void one_list(uint64_t least_calls, uint64_t most_calls)
     cap[NETS1] = cap[NETS2] = big ? 104 * 4 * 255 : one_in(3) ? 104 * 4 * 27 : 104 * 4 * 6;
     cap[RANGES] = 4 * (depth_cap = big ? 4000 : 104);
     cap[RAW] = cap[REPORT] = big ? 60000 : one_in(3) ? 16000 : 6000;
+    mark_cap = cap[RAW] / 10;
     fill_worlds(wild && forging);
     call_number = 0;
     open_until(&s, 12);
@@ -642,6 +710,15 @@ static void one_list(uint64_t least_calls, uint64_t most_calls)
             continue;
         }
         if (forging && wild && one_in(6)) forge_memory(&s);
+        if (forging && wild && one_in(12)) {
+            State f;
+            forge_regions(&f);
+            forged_calls++;
+            forged = 1;
+            do_report(&f);
+            forged = 0;
+            continue;
+        }
         if (forging && one_in(5)) {
             State f = one_in(3) ? kept : s;
             uint64_t before = counts[SETTLE][0] + counts[HALVE][0] + counts[GIVE][0] + counts[TELL][0];
@@ -649,7 +726,9 @@ static void one_list(uint64_t least_calls, uint64_t most_calls)
             if (invented) invent(&f);
             for (uint64_t i = invented ? one_in(4) : 1 + one_in(4); i > 0; i--) bend(&f);
             forged_calls++;
+            forged = 1;
             one_call(&f, 2);
+            forged = 0;
             forged_passed += counts[SETTLE][0] + counts[HALVE][0] + counts[GIVE][0] + counts[TELL][0] > before;
             if (one_in(invented ? 2 : 20) && readable(&f)) s = f;
             continue;
@@ -696,6 +775,8 @@ int main(int argc, char **argv)
     }
     printf("halved first %lu, second %lu; given up at depth 64 %lu; stopped %lu; regions raw %lu, merged %lu\n",
            (unsigned long)halved[0], (unsigned long)halved[1], (unsigned long)deep, (unsigned long)stopped, (unsigned long)raw_regions, (unsigned long)merged_regions);
+    printf("openings with a whole turn %lu; reports with one %lu; with a group %lu, and of a forged state %lu\n",
+           (unsigned long)whole_openings, (unsigned long)turned, (unsigned long)groups[0], (unsigned long)groups[1]);
     printf("differences %lu\n", (unsigned long)differences);
     return differences != 0;
 }

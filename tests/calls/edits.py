@@ -1,5 +1,6 @@
 #!/usr/bin/env python3
-"""Each of these mistakes in tests/model/calls.c must show as a difference from the library: the random lists would find it there too.
+"""Each of these mistakes in tests/model/calls.c, or in clearance.c beside it, must show as a difference from the library: the random lists would
+find it there too.
 
   edits.py [SEED LISTS]     needs a C compiler and target/staticlib/liblovgurshem.a
 """
@@ -49,7 +50,7 @@ EDITS = [
     ('report not cleared', '    for (uint64_t i = 10 * t->regions; i < 10 * n; i++) m->report.at[i] = 0.0;\n', ''),
     ('report cleared to the end', 'i < 10 * n; i++) m->report.at[i] = 0.0;', 'i < m->report.length; i++) m->report.at[i] = 0.0;'),
     ('word by the given first', 't->word = s->waiting > 0 ? 1 : s->given > 0 ? 2 : 0;', 't->word = s->given > 0 ? 2 : s->waiting > 0 ? 1 : 0;'),
-    ('coordinates no multiple of 3', '(fault == 0 || fault > 10)) fault = 10;', '0) fault = 10;'),
+    ('coordinates no multiple of 3', '(fault == 0 || (fault > 10 && fault != 22))) fault = 10;', '0) fault = 10;'),
     ('19 of the pieces after a write', '> m->pieces[i].length)\n            return 19;', '> m->pieces[i].length) {\n            if (m->pieces[1 - i].length) m->pieces[1 - i].at[0] = 9.0;\n            return 19;\n        }'),
     ('19 of the pieces one short', '* breaks.piece_count[i] > m->pieces[i].length)', '* breaks.piece_count[i] > m->pieces[i].length + 1)'),
     ('pieces not kept at 19', '    if (!slices_fit(&first, m)) return 19;\n', '    if (!slices_fit(&first, m)) {\n        m->pieces[0].at[0] = 9.0;\n        return 19;\n    }\n'),
@@ -72,20 +73,54 @@ EDITS = [
     ('stopped by any number', '    if (w[10] > 1) return 0;\n', ''),
     ('stopped 2', 'w[10] > 1)', 'w[10] > 2)'),
     ('words without bits not tested', 'if (w[i] != 0) return 0;', ';'),
-    ('word 12 not tested', '    for (int i = 12; i < STATE_WORDS; i++)\n        if', '    for (int i = 13; i < STATE_WORDS; i++)\n        if'),
-    ('word 22 not tested', '    for (int i = 12; i < STATE_WORDS; i++)\n        if', '    for (int i = 12; i < STATE_WORDS - 1; i++)\n        if'),
+    ('word 12 not tested', '    for (int i = 12; i < 17; i++)\n        if', '    for (int i = 13; i < 17; i++)\n        if'),
+    ('word 16 not tested', '    for (int i = 12; i < 17; i++)\n        if', '    for (int i = 12; i < 16; i++)\n        if'),
+    ('word 22 without bits', '    for (int i = 12; i < 17; i++)\n        if', '    if (w[22] != 0) return 0;\n    for (int i = 12; i < 17; i++)\n        if'),
+    ('first turn of any number', 'if (w[17] > 1 || w[18] > 1) return 0;', 'if (w[18] > 1) return 0;'),
+    ('second turn of any number', 'if (w[17] > 1 || w[18] > 1) return 0;', 'if (w[17] > 1) return 0;'),
+    ('turn 2', 'if (w[17] > 1 || w[18] > 1) return 0;', 'if (w[17] > 2 || w[18] > 2) return 0;'),
+    ('a NaN end refused', '    if (w[17] > 1 ||', '    if (isnan(float_of(w[19]))) return 0;\n    if (w[17] > 1 ||'),
+    ('an infinite end refused', '    if (w[17] > 1 ||', '    if (isinf(float_of(w[20]))) return 0;\n    if (w[17] > 1 ||'),
+    ('a falling range refused', '    if (w[17] > 1 ||', '    if (float_of(w[21]) > float_of(w[22])) return 0;\n    if (w[17] > 1 ||'),
+    ('turns changed over', '{ (int)w[17], float_of(w[19])', '{ (int)w[18], float_of(w[19])'),
+    ('first lo from the second', 'float_of(w[19]), float_of(w[20])', 'float_of(w[21]), float_of(w[20])'),
+    ('second hi from the first', 'float_of(w[21]), float_of(w[22])', 'float_of(w[21]), float_of(w[20])'),
+    ('lo and hi changed over', 'float_of(w[19]), float_of(w[20])', 'float_of(w[20]), float_of(w[19])'),
+    ('turns not written by the opening', '        w[17 + i] = (uint64_t)s->turn[i].whole;\n', '        w[17 + i] = 0;\n'),
+    ('ends written by word and line', 'w[19 + 2 * i] = bits_of(s->turn[i].lo);\n        w[20 + 2 * i]', 'w[19 + i] = bits_of(s->turn[i].lo);\n        w[21 + i]'),
+    ('ends of a whole turn only', '        w[19 + 2 * i] = bits_of(s->turn[i].lo);\n', '        w[19 + 2 * i] = s->turn[i].whole ? bits_of(s->turn[i].lo) : 0;\n'),
+    ('end without its sign of zero', 'w[19 + 2 * i] = bits_of(s->turn[i].lo);', 'w[19 + 2 * i] = bits_of(s->turn[i].lo + 0.0);'),
+    ('a step writes the turns', '    w[10] = (uint64_t)s->stopped;\n', '    w[10] = (uint64_t)s->stopped;\n    w[17] = w[18] = 0;\n'),
+    ('19 marks', '        || (uint64_t)s->pairs * ((uint64_t)s->quota + 1) > m->marks.length\n', ''),
+    ('19 marks equal', '+ 1) > m->marks.length', '+ 1) >= m->marks.length'),
+    ('19 marks without the starting pairs', '(uint64_t)s->pairs * ((uint64_t)s->quota + 1) > m->marks.length', '(uint64_t)s->pairs * s->quota > m->marks.length'),
+    ('19 ten marks a region', '(uint64_t)s->pairs * ((uint64_t)s->quota + 1) > m->marks.length', '10 * (uint64_t)s->pairs * ((uint64_t)s->quota + 1) > m->marks.length'),
+    ('19 marks of the raw list only', '(uint64_t)s->pairs * ((uint64_t)s->quota + 1) > m->marks.length', 'n > m->marks.length'),
+    ('19 marks in a step', 'if (!slices_fit(s, m) || !is_search(s, m)) return 19;\n    if (v == SETTLED)', 'if (!slices_fit(s, m) || !is_search(s, m) || (uint64_t)s->pairs * (s->quota + 1) > m->marks.length) return 19;\n    if (v == SETTLED)'),
+    ('19 marks before 21', '    if (!has_ended(&s)) return 21;\n    if (length', '    if ((uint64_t)s.pairs * ((uint64_t)s.quota + 1) > m->marks.length) return 19;\n    if (!has_ended(&s)) return 21;\n    if (length'),
+    ('marks written at 19', '    if (!has_ended(s)) return 21;\n    if (!slices_fit(s, m)\n', '    if (!has_ended(s)) return 21;\n    if (m->marks.length) m->marks.at[0] = 0;\n    if (!slices_fit(s, m)\n'),
+    ('marks up to the raw list', '    mark_regions(s->turn, list, t->regions, m->marks.at);\n', '    mark_regions(s->turn, list, t->regions, m->marks.at);\n    for (uint64_t i = t->regions; i < n; i++) m->marks.at[i] = 0;\n'),
+    ('marks of the raw list', 'mark_regions(s->turn, list, t->regions, m->marks.at);', 'mark_regions(s->turn, list, n, m->marks.at);'),
+    ('no marks', '    mark_regions(s->turn, list, t->regions, m->marks.at);\n', ''),
+    ('places for marks', '    mark_regions(s->turn, list, t->regions, m->marks.at);\n', '    for (uint32_t i = 0; i < t->regions; i++) m->marks.at[i] = i;\n'),
+    ('marks without turns', 'mark_regions(s->turn, list,', 'mark_regions((Turn[2]){ { 0, 0.0, 0.0 }, { 0, 0.0, 0.0 } }, list,'),
+    ('no turn where the ends fall', 'mark_regions(s->turn, list,', 'mark_regions((Turn[2]){ { s->turn[0].whole && s->turn[0].lo < s->turn[0].hi, s->turn[0].lo, s->turn[0].hi }, s->turn[1] }, list,'),
+    ('ends of a turn by their bits', '(a[0] == t->lo && b[1] == t->hi) ||', '(memcmp(a, &t->lo, 8) == 0 && memcmp(b + 1, &t->hi, 8) == 0) ||'),
+    ('a NaN end meets everything', '(a[0] == t->lo && b[1] == t->hi) ||', '(!(a[0] < t->lo || a[0] > t->lo) && b[1] == t->hi) ||'),
+    ('hi of a turn not read', '(a[0] == t->lo && b[1] == t->hi) ||', '(a[0] == t->lo && b[1] >= t->hi) ||'),
+    ('terms not kept by the opening', '    memcpy(first.turn, breaks.turn, sizeof first.turn);\n', ''),
     ('a NaN gap refused', '    if (w[10] > 1) return 0;\n', '    if (w[10] > 1 || isnan(float_of(w[11]))) return 0;\n'),
     ('a negative gap refused', '    if (w[10] > 1) return 0;\n', '    if (w[10] > 1 || w[11] >> 63) return 0;\n'),
     ('an infinite gap refused', '    if (w[10] > 1) return 0;\n', '    if (w[10] > 1 || isinf(float_of(w[11]))) return 0;\n'),
-    ('gap without its sign', 'float_of(w[11]), (int)w[10] };', 'fabs(float_of(w[11])), (int)w[10] };'),
-    ('gap from another word', 'float_of(w[11]), (int)w[10] };', 'float_of(w[12]), (int)w[10] };'),
+    ('gap without its sign', 'float_of(w[11]), (int)w[10],', 'fabs(float_of(w[11])), (int)w[10],'),
+    ('gap from another word', 'float_of(w[11]), (int)w[10],', 'float_of(w[12]), (int)w[10],'),
     ('a step writes the gap', '    w[10] = (uint64_t)s->stopped;\n', '    w[10] = (uint64_t)s->stopped;\n    w[11] = bits_of(s->gap + 0.0);\n'),
     ('a step loses the gap', '    w[10] = (uint64_t)s->stopped;\n', '    w[10] = (uint64_t)s->stopped;\n    w[11] = 0;\n'),
     ('stopped not written', '    w[10] = (uint64_t)s->stopped;\n', ''),
     ('visits not written', '    w[3] = s->visits;\n', ''),
     ('gap not written by the opening', '    w[11] = bits_of(s->gap);\n', ''),
-    ('words without bits not written by the opening', '    for (int i = 12; i < STATE_WORDS; i++) w[i] = 0;\n', ''),
-    ('a word behind the last written', 'i < STATE_WORDS; i++) w[i] = 0;', 'i < STATE_WORDS + 1; i++) w[i] = 0;'),
+    ('words without bits not written by the opening', '    for (int i = 12; i < 17; i++) w[i] = 0;\n', ''),
+    ('a word behind the last written', '    for (int i = 12; i < 17; i++) w[i] = 0;\n', '    for (int i = 12; i < 17; i++) w[i] = 0;\n    w[STATE_WORDS] = 0;\n'),
     ('19 of the words before 4', '    for (int i = 0; i < 2; i++) {\n        fault = take_given', '    if (n < STATE_WORDS) return 19;\n    for (int i = 0; i < 2; i++) {\n        fault = take_given'),
     ('19 of the words before 15', '    if (r.number) return r.number + 256 * r.line;\n    if (n < STATE_WORDS) return 19;\n', '    if (n < STATE_WORDS) return 19;\n    if (r.number) return r.number + 256 * r.line;\n'),
     ('19 of the words after the pieces are written', '    if (n < STATE_WORDS) return 19;\n    for', '    for', '    if (!slices_fit(&first, m)) return 19;\n', '    if (n < STATE_WORDS || !slices_fit(&first, m)) return 19;\n'),
@@ -103,21 +138,22 @@ EDITS = [
 
 def main():
     seed, lists = sys.argv[1:3] if len(sys.argv) > 2 else ('1', '1000')
-    text = (ROOT / 'tests/model/calls.c').read_text()
+    texts = {name: (ROOT / 'tests/model' / name).read_text() for name in ['calls.c', 'clearance.c']}
     missed = 0
     with tempfile.TemporaryDirectory() as folder:
         top = pathlib.Path(folder)
         for part in ['model', 'calls']:
             (top / part).mkdir()
-        (top / 'model/clearance.c').write_text((ROOT / 'tests/model/clearance.c').read_text())
         (top / 'calls/calls.c').write_text((ROOT / 'tests/calls/calls.c').read_text())
         for name, *pairs in EDITS:
-            changed = text
+            changed = dict(texts)
             for old, new in zip(pairs[::2], pairs[1::2]):
-                if changed.count(old) != 1:
-                    sys.exit(f'{name}: the old text occurs {changed.count(old)} times')
-                changed = changed.replace(old, new)
-            (top / 'model/calls.c').write_text(changed)
+                files = [file for file in changed if old in changed[file]]
+                if len(files) != 1 or changed[files[0]].count(old) != 1:
+                    sys.exit(f'{name}: the old text does not occur once')
+                changed[files[0]] = changed[files[0]].replace(old, new)
+            for file in changed:
+                (top / 'model' / file).write_text(changed[file])
             subprocess.run(['cc', '-O2', '-std=c99', '-w', '-ffp-contract=off', '-I', ROOT / 'include', '-o', top / 'run', top / 'calls/calls.c',
                             ROOT / 'target/staticlib/liblovgurshem.a', '-lm'], check=True)
             out = subprocess.run([top / 'run', seed, lists], stdout=subprocess.PIPE, text=True).returncode

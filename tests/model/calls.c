@@ -1,8 +1,9 @@
 /*
- * The library's operations as document 01 has them, on lent memory of any
- * length and on any state: the table's numbers 4 to 21 and the paragraph
- * under it, Search, Merging. The parts of a sheet's answer (admission, breaks,
- * pieces, boxes, tests, halving, merging) are clearance.c's.
+ * The library's operations as document 01 has them, with 02's M-100 and M-101,
+ * on lent memory of any length and on any state: the table's numbers 4 to 22
+ * and the paragraph under it, Search, Merging, marks. The parts of a sheet's
+ * answer (admission, breaks, pieces, boxes, tests, halving, merging, the
+ * neighbours' chains) are clearance.c's.
  *
  * A state travels as words of 64 bits; what they are is the header's table
  * (include/lovgurshem.h, STATE).
@@ -29,15 +30,18 @@ typedef struct {
     uint8_t width[2];
     double gap;
     int stopped; /* a split came due with allowance 0 */
+    Turn turn[2];
 } State;
 
 /* A lent slice: its start and how much of it is lent. */
 typedef struct { double *at; size_t length; } Floats;
 typedef struct { uint8_t *at; size_t length; } Bytes;
+typedef struct { uint32_t *at; size_t length; } Marks;
 
 typedef struct {
     Floats pieces[2], nets[2], ranges, raw, report;
     Bytes depths;
+    Marks marks;
 } Lent;
 
 /* A line as a call hands it over: counts of its own for each slice. */
@@ -79,10 +83,12 @@ static int read_words(const uint64_t *w, size_t n, State *s)
     for (int i = 0; i < 2; i++)
         if (w[8 + i] < 2 || w[8 + i] > MAX_WIDTH) return 0;
     if (w[10] > 1) return 0;
-    for (int i = 12; i < STATE_WORDS; i++)
+    for (int i = 12; i < 17; i++)
         if (w[i] != 0) return 0;
+    if (w[17] > 1 || w[18] > 1) return 0;
     *s = (State){ (uint16_t)w[0], (uint16_t)w[1], (uint32_t)w[2], w[3], (uint32_t)w[4], (uint32_t)w[5], (uint32_t)w[6],
-                  (uint32_t)w[7], { (uint8_t)w[8], (uint8_t)w[9] }, float_of(w[11]), (int)w[10] };
+                  (uint32_t)w[7], { (uint8_t)w[8], (uint8_t)w[9] }, float_of(w[11]), (int)w[10],
+                  { { (int)w[17], float_of(w[19]), float_of(w[20]) }, { (int)w[18], float_of(w[21]), float_of(w[22]) } } };
     return 1;
 }
 
@@ -107,7 +113,12 @@ static void write_words(const State *s, uint64_t *w)
     w[8] = s->width[0];
     w[9] = s->width[1];
     w[11] = bits_of(s->gap);
-    for (int i = 12; i < STATE_WORDS; i++) w[i] = 0;
+    for (int i = 12; i < 17; i++) w[i] = 0;
+    for (int i = 0; i < 2; i++) {
+        w[17 + i] = (uint64_t)s->turn[i].whole;
+        w[19 + 2 * i] = bits_of(s->turn[i].lo);
+        w[20 + 2 * i] = bits_of(s->turn[i].hi);
+    }
 }
 
 /* ---- the operations on a state ----------------------------------------- */
@@ -248,8 +259,9 @@ static int run(State *s, const Lent *m)
  * how many regions; the counts are the state's, left the nodes waiting. */
 typedef struct { int word; uint64_t regions; } Told;
 
-/* A report: 21, 19, or 0 with the raw list whole in the raw slice, and the
- * merged regions, then +0 up to the raw list's length, in the report slice. */
+/* A report: 21, 19, or 0 with the raw list whole in the raw slice, the merged
+ * regions, then +0 up to the raw list's length, in the report slice, and their
+ * marks in the marks slice, "unchanged past the regions" (02, M-101). */
 static int report(const State *s, const Lent *m, Told *t)
 {
     uint64_t n = (uint64_t)s->given + s->waiting;
@@ -258,6 +270,7 @@ static int report(const State *s, const Lent *m, Told *t)
     if (!has_ended(s)) return 21;
     if (!slices_fit(s, m)
         || 10 * (uint64_t)s->pairs * ((uint64_t)s->quota + 1) > m->report.length
+        || (uint64_t)s->pairs * ((uint64_t)s->quota + 1) > m->marks.length
         || !is_search(s, m))
         return 19;
     for (uint32_t k = 0; k < s->waiting; k++) {
@@ -268,6 +281,7 @@ static int report(const State *s, const Lent *m, Told *t)
     t->regions = merge((const Region *)m->raw.at, n, list);
     sort_regions(list, t->regions);
     for (uint64_t i = 10 * t->regions; i < 10 * n; i++) m->report.at[i] = 0.0;
+    mark_regions(s->turn, list, t->regions, m->marks.at);
     return 0;
 }
 
@@ -300,7 +314,7 @@ static int call_open(const Given given[2], const double range[2][2], double gap,
                      uint32_t splits, const Lent *m, uint64_t *w, size_t n)
 {
     static Sheet sheet;
-    static Search breaks; /* for its breaks, widths and counts of pieces */
+    static Search breaks; /* for its breaks, widths, counts of pieces and turns */
     static double boxes[2][MAX_PIECES][6];
     State first = { 0 };
     Refusal r;
@@ -338,6 +352,7 @@ static int call_open(const Given given[2], const double range[2][2], double gap,
     first.width[0] = (uint8_t)breaks.width[0];
     first.width[1] = (uint8_t)breaks.width[1];
     first.gap = gap;
+    memcpy(first.turn, breaks.turn, sizeof first.turn);
     if (!slices_fit(&first, m)) return 19;
     for (uint32_t i = 0; i < breaks.piece_count[0]; i++)
         for (uint32_t j = 0; j < breaks.piece_count[1]; j++) {

@@ -1,7 +1,8 @@
 /*
- * The sheet program of document 01 with document 02's M-100: two B-splines,
- * open or closed, a stretch of each and a gap; the answer is a verdict with the
- * regions that could not be cleared, or a refusal with its number.
+ * The sheet program of document 01 with document 02's M-100 and M-101: two
+ * B-splines, open or closed, a stretch of each and a gap; the answer is a
+ * verdict with the regions that could not be cleared, each with its stretch
+ * mark, or a refusal with its number.
  *
  *   clearance < SHEET            prints the answer
  *   clearance --pieces < SHEET   the answer, then the net of every piece
@@ -14,12 +15,14 @@
  * Every sum, difference, product and quotient is one IEEE 754 double operation
  * in the order of the Rust source; sqrt is the correctly rounded root.
  * "01" in a comment is document 01 (01-scope.md), with the module's name;
- * "02" is document 02 (02-change-requests.md), paragraph M-100.
+ * "02" is document 02 (02-change-requests.md), paragraph M-100 where no other
+ * is named.
  */
 #include <float.h>
 #include <math.h>
 #include <stdint.h>
 #include <stdio.h>
+#include <stdlib.h>
 #include <string.h>
 
 #if FLT_EVAL_METHOD != 0
@@ -47,14 +50,15 @@ enum {
 #define MIN_WEIGHT 0.0009765625      /* 2^-10 */
 #define MAX_WEIGHT 1024.0            /* 2^10 */
 
-/* 01, Sheet program: the memory lent to the search, in floats (depths in
- * words); pieces and nets for each line. */
+/* 01, Sheet program: the memory lent to the search, in floats (depths and
+ * marks in words); pieces and nets for each line. */
 enum {
     LENT_PIECES = 8112,
     LENT_NETS = 7904,
     LENT_RANGES = 304,
     LENT_DEPTHS = 76,
-    LENT_REGIONS = 8190
+    LENT_REGIONS = 8190,
+    LENT_MARKS = LENT_REGIONS / 10 /* 02, M-101: "the sheet program lends 819" */
 };
 
 typedef struct {
@@ -695,8 +699,15 @@ static Verdict own_verdict(const Hull *a, const Hull *b, double gap)
 /* First lo, hi, second lo, hi, lowest x, y, z, highest x, y, z. */
 typedef struct { double f[10]; } Region;
 
+/* The asked range of a line, and whether it is a whole turn of a closed one. */
+typedef struct {
+    int whole;
+    double lo, hi;
+} Turn;
+
 typedef struct {
     double gap;
+    Turn turn[2];
     uint32_t width[2];
     uint32_t piece_count[2];
     double breaks[2][MAX_BREAKS];
@@ -706,6 +717,7 @@ typedef struct {
     uint32_t depths[LENT_DEPTHS];
     Region raw[LENT_REGIONS / 10];
     Region report[LENT_REGIONS / 10];
+    uint32_t marks[LENT_MARKS];
     uint64_t pairs, visits, splits, settled, given;
     uint64_t waiting, unspent;
     int ended;
@@ -857,10 +869,15 @@ static void step(Search *s)
 
 /* ---- Merging (01, Merging) --------------------------------------------- */
 
+/* Two ranges, lo and hi each, both closed. */
+static int meet(const double *a, const double *b)
+{
+    return a[0] <= b[1] && b[0] <= a[1];
+}
+
 static int touch(const Region *a, const Region *b)
 {
-    return a->f[0] <= b->f[1] && b->f[0] <= a->f[1]
-        && a->f[2] <= b->f[3] && b->f[2] <= a->f[3];
+    return meet(a->f, b->f) && meet(a->f + 2, b->f + 2);
 }
 
 /* The smallest region that holds both. */
@@ -915,6 +932,63 @@ static void sort_regions(Region *list, uint64_t n)
     }
 }
 
+/* ---- Stretch marks (02, M-101) ----------------------------------------- */
+
+/* "the line is closed, its asked hi - lo, as rounded, is the period" */
+static Turn turn_of(const Line *l, const double range[2])
+{
+    Turn t = { l->closed && range[1] - range[0] == period(l), range[0], range[1] };
+    return t;
+}
+
+/* "and one starts at the asked lo while the other ends at the asked hi" */
+static int over_seam(const Turn *t, const double *a, const double *b)
+{
+    return t->whole
+        && ((a[0] == t->lo && b[1] == t->hi) || (b[0] == t->lo && a[1] == t->hi));
+}
+
+/* "on each line they meet plainly or over the seam" */
+static int neighbours(const Turn turn[2], const Region *a, const Region *b)
+{
+    for (int k = 0; k < 2; k++) {
+        const double *x = a->f + 2 * k, *y = b->f + 2 * k;
+        if (!meet(x, y) && !over_seam(&turn[k], x, y)) return 0;
+    }
+    return 1;
+}
+
+/* Row i of `chained` has a 1 for each region that a chain of neighbours joins
+ * to region i: the closure of the neighbours, by Warshall's rule. */
+static void close_chains(unsigned char *chained, uint64_t n)
+{
+    for (uint64_t k = 0; k < n; k++)
+        for (uint64_t i = 0; i < n; i++) {
+            if (!chained[i * n + k]) continue;
+            for (uint64_t j = 0; j < n; j++) chained[i * n + j] |= chained[k * n + j];
+        }
+}
+
+/* "the lowest list index of its group, counted from 0" */
+static void mark_regions(const Turn turn[2], const Region *list, uint64_t n,
+                         uint32_t *marks)
+{
+    unsigned char *chained = malloc(n * n + 1);
+    if (!chained) abort();
+    for (uint64_t i = 0; i < n; i++)
+        for (uint64_t j = 0; j < n; j++)
+            chained[i * n + j] = i == j || neighbours(turn, &list[i], &list[j]);
+    close_chains(chained, n);
+    for (uint64_t i = 0; i < n; i++) {
+        uint32_t lowest = 0;
+        while (!chained[i * n + lowest]) lowest++;
+        marks[i] = lowest;
+    }
+    free(chained);
+}
+
+/* ---- Report (01, Merging) ---------------------------------------------- */
+
 /* The report of an ended search: the raw list is the given regions, then the
  * left nodes from the bottom. Gives the count of regions. */
 static uint64_t report(Search *s)
@@ -927,6 +1001,7 @@ static uint64_t report(Search *s)
     }
     n = merge(s->raw, n, s->report);
     sort_regions(s->report, n);
+    mark_regions(s->turn, s->report, n, s->marks);
     return n;
 }
 
@@ -958,7 +1033,7 @@ static void print_result(const Search *s, uint64_t regions)
     for (uint64_t i = 0; i < regions; i++) {
         printf("region");
         for (int j = 0; j < 10; j++) print_float(s->report[i].f[j]);
-        printf("\n");
+        printf(" %lu\n", (unsigned long)s->marks[i]);
     }
 }
 
@@ -997,6 +1072,7 @@ static Refusal ask(const Sheet *sheet, Search *s)
         if (!breaks_have_middles(s->breaks[k], n)) return refusal(18, k + 1);
         s->piece_count[k] = (uint32_t)(n - 1);
         s->width[k] = l->degree + 1;
+        s->turn[k] = turn_of(l, sheet->range[k]);
     }
     s->gap = sheet->gap;
     return refusal(0, 0);

@@ -6,7 +6,7 @@
 
 Each edit below makes one mistake in clearance.c. The edited program is built
 and run on the sheets of each DIR/sheets.bin (or, with --random, on the drawn
-sheets and N random ones of the seed, closed lines among them); an edit is seen
+sheets and N random ones of the seed, all levels among them); an edit is seen
 if an answer differs from the unedited program's. Exit 1 if an edit is not seen,
 or if one of those that no sheet can show is. --where prints the first sheet
 that shows each edit.
@@ -171,9 +171,9 @@ EDITS = [
     # merging
     ('from the start', 'Region r = raw[--count];', 'Region r = *raw++;\n        count--;'),
     ('one pass', '} while (n < before);', '} while (0 && n < before);'),
-    ('touching is open', 'return a->f[0] <= b->f[1] &&', 'return a->f[0] < b->f[1] &&'),
-    ('touching of the first range', '\n        && a->f[2] <= b->f[3] && b->f[2] <= a->f[3]', ''),
-    ('touching of the second range', 'a->f[0] <= b->f[1] && b->f[0] <= a->f[1]\n        && ', ''),
+    ('touching is open', 'return meet(a->f, b->f) && meet', 'return a->f[0] < b->f[1] && b->f[0] <= a->f[1] && meet'),
+    ('touching of the first range', ' && meet(a->f + 2, b->f + 2);', ';'),
+    ('touching of the second range', 'return meet(a->f, b->f) && ', 'return '),
     ('equal starts turned', 'list[j - 1].f[0] > r.f[0]', 'list[j - 1].f[0] >= r.f[0]'),
     ('-0 before +0', 'list[j - 1].f[0] > r.f[0]', '(list[j - 1].f[0] > r.f[0] || (list[j - 1].f[0] == r.f[0] && !signbit(list[j - 1].f[0]) && signbit(r.f[0])))'),
     ('not sorted', '    sort_regions(s->report, n);\n', ''),
@@ -239,7 +239,54 @@ EDITS = [
     ('the last pole stays', '    i %= l->pole_count;\n', '    i = i < l->pole_count ? i : l->pole_count - 1;\n'),
     ('weights not wrapped', '    i %= l->pole_count;\n    double w = l->rational ? l->weights[i] : 1.0;', '    double w = l->rational ? l->weights[i] : 1.0;\n    i %= l->pole_count;'),
     ('127 pieces', 'int n = fill_breaks(l, sheet->range[k], s->breaks[k]);', 'int n = fill_breaks(l, sheet->range[k], s->breaks[k]);\n        if (n > MAX_KNOTS) return refusal(19, 0);'),
+    # stretch marks
+    ('a turn of an open line', 'Turn t = { l->closed && range', 'Turn t = { range'),
+    ('no whole turn', 'Turn t = { l->closed && range', 'Turn t = { 0 && range'),
+    ('every range of a closed line', 'Turn t = { l->closed && range[1] - range[0] == period(l),', 'Turn t = { l->closed,'),
+    ('hi = lo + period', 'range[1] - range[0] == period(l),', 'range[1] == range[0] + period(l),'),
+    ('lo = hi - period', 'range[1] - range[0] == period(l),', 'range[0] == range[1] - period(l),'),
+    ('hi - lo exact', 'range[1] - range[0] == period(l),', '(long double)range[1] - range[0] == (long double)last_knot(l) - first_knot(l),'),
+    ('nearly a turn', 'range[1] - range[0] == period(l),', 'fabs(range[1] - range[0] - period(l)) < 1e-12 * period(l),'),
+    ('a turn from the first knot only', 'Turn t = { l->closed && range', 'Turn t = { l->closed && range[0] == first_knot(l) && range'),
+    ('the seam at the knots', 'period(l), range[0], range[1] };', 'period(l), first_knot(l), last_knot(l) };'),
+    ('the seam from the first knot', 'period(l), range[0], range[1] };', 'period(l), first_knot(l), range[1] };'),
+    ('the seam to the last knot', 'period(l), range[0], range[1] };', 'period(l), range[0], last_knot(l) };'),
+    ('the seam to lo + period', 'period(l), range[0], range[1] };', 'period(l), range[0], range[0] + period(l) };'),
+    ('the seam one way', '(a[0] == t->lo && b[1] == t->hi) || (b[0] == t->lo && a[1] == t->hi)', '(a[0] == t->lo && b[1] == t->hi)'),
+    ('the seam the other way', '(a[0] == t->lo && b[1] == t->hi) || (b[0] == t->lo && a[1] == t->hi)', '(b[0] == t->lo && a[1] == t->hi)'),
+    ('start or end at the seam', '(a[0] == t->lo && b[1] == t->hi) ||', '(a[0] == t->lo || b[1] == t->hi) ||'),
+    ('any two that start at lo', '(a[0] == t->lo && b[1] == t->hi) ||', '(a[0] == t->lo && b[0] == t->lo) ||'),
+    ('near the seam', '(a[0] == t->lo && b[1] == t->hi) ||', '(a[0] <= t->lo + 0.125 && b[1] == t->hi) ||'),
+    ('no seam', 'if (!meet(x, y) && !over_seam(&turn[k], x, y)) return 0;', 'if (!meet(x, y)) return 0;'),
+    ('both lines over the seam', 'if (!meet(x, y) && !over_seam(&turn[k], x, y)) return 0;', 'if (!over_seam(&turn[k], x, y)) return 0;'),
+    ('both lines over the seam or neither', 'if (!meet(x, y) && !over_seam(&turn[k], x, y)) return 0;', 'if (!meet(x, y) && !(over_seam(&turn[0], a->f, b->f) && over_seam(&turn[1], a->f + 2, b->f + 2))) return 0;'),
+    ('one line over the seam', 'if (!meet(x, y) && !over_seam(&turn[k], x, y)) return 0;', 'if (!meet(x, y) && !(over_seam(&turn[k], x, y) && meet(a->f + 2 - 2 * k, b->f + 2 - 2 * k))) return 0;'),
+    ('a seam on either line is enough', '    for (int k = 0; k < 2; k++) {\n        const double *x', '    if (over_seam(&turn[0], a->f, b->f) || over_seam(&turn[1], a->f + 2, b->f + 2)) return 1;\n    for (int k = 0; k < 2; k++) {\n        const double *x'),
+    ('the first seam for both lines', '!over_seam(&turn[k], x, y)', '!over_seam(&turn[0], x, y)'),
+    ('the second seam for both lines', '!over_seam(&turn[k], x, y)', '!over_seam(&turn[1], x, y)'),
+    ('the seam of the first line only', '!over_seam(&turn[k], x, y)', '!(k == 0 && over_seam(&turn[k], x, y))'),
+    ('the seam of the second line only', '!over_seam(&turn[k], x, y)', '!(k == 1 && over_seam(&turn[k], x, y))'),
+    ('neighbours meet openly', 'if (!meet(x, y) && !over', 'if (!(x[0] < y[1] && y[0] < x[1]) && !over'),
+    ('neighbours on the first line', '    for (int k = 0; k < 2; k++) {\n        const double *x', '    for (int k = 0; k < 1; k++) {\n        const double *x'),
+    ('neighbours on the second line', '    for (int k = 0; k < 2; k++) {\n        const double *x', '    for (int k = 1; k < 2; k++) {\n        const double *x'),
+    ('neighbours only', '    close_chains(chained, n);\n', ''),
+    ('chains of two', 'for (uint64_t k = 0; k < n; k++)\n        for (uint64_t i = 0; i < n; i++) {\n            if (!chained',
+     'for (uint64_t k = n - (n > 0); k < n; k++)\n        for (uint64_t i = 0; i < n; i++) {\n            if (!chained'),
+    ('chains through earlier regions', 'for (uint64_t k = 0; k < n; k++)\n        for (uint64_t i = 0; i < n; i++) {\n            if (!chained',
+     'for (uint64_t k = 0; k < n; k++)\n        for (uint64_t i = k; i < n; i++) {\n            if (!chained'),
+    ('the highest place', 'uint32_t lowest = 0;\n        while (!chained[i * n + lowest]) lowest++;', 'uint32_t lowest = (uint32_t)n - 1;\n        while (!chained[i * n + lowest]) lowest--;'),
+    ('counted from 1', '        marks[i] = lowest;\n', '        marks[i] = lowest + 1;\n'),
+    ('groups numbered', '        marks[i] = lowest;\n', '        marks[i] = 0;\n        for (uint32_t k = 0; k < lowest; k++) marks[i] += marks[k] == k || k == 0 || !chained[k * n];\n'),
+    ('the place for the mark', '        marks[i] = lowest;\n', '        marks[i] = (uint32_t)i;\n'),
+    ('places before sorting', '    sort_regions(s->report, n);\n    mark_regions(s->turn, s->report, n, s->marks);\n', '    mark_regions(s->turn, s->report, n, s->marks);\n    sort_regions(s->report, n);\n'),
+    ('groups counted as regions', '    print_result(&search, report(&search));', '    { uint64_t n = report(&search), groups = 0;\n      for (uint64_t i = 0; i < n; i++) groups += search.marks[i] == i;\n      print_result(&search, groups); }'),
     # printing
+    ('no mark', '        printf(" %lu\\n", (unsigned long)s->marks[i]);', '        printf("\\n");'),
+    ('mark without a space', 'printf(" %lu\\n", (unsigned long)s->marks[i]);', 'printf("%lu\\n", (unsigned long)s->marks[i]);'),
+    ('mark in hexadecimal', 'printf(" %lu\\n", (unsigned long)s->marks[i]);', 'printf(" %lX\\n", (unsigned long)s->marks[i]);'),
+    ('mark with three digits', 'printf(" %lu\\n", (unsigned long)s->marks[i]);', 'printf(" %03lu\\n", (unsigned long)s->marks[i]);'),
+    ('mark of two digits', 'printf(" %lu\\n", (unsigned long)s->marks[i]);', 'printf(" %lu\\n", (unsigned long)s->marks[i] % 100);'),
+    ('mark of the next region', '(unsigned long)s->marks[i]);', '(unsigned long)s->marks[i + 1 < regions ? i + 1 : i]);'),
     ('-0 printed', '    if (x == 0.0) bits = 0;\n', ''),
     ('unseparated before budget', 'if (s->waiting > 0)\n        word = "budget";\n    else if (s->given > 0)\n        word = "unseparated";', 'if (s->given > 0)\n        word = "unseparated";\n    else if (s->waiting > 0)\n        word = "budget";'),
 ]
@@ -287,8 +334,8 @@ def stored(folders):
 
 
 def generated(seed, count):
-    listed = [d for _, d in sheets.drawn()] + [d for _, d in sheets.closed_drawn()]
-    listed += [d for _, d in sheets.random_sheets(seed, count, closed=True)]
+    listed = [d for _, d in sheets.drawn_up_to(101)]
+    listed += [d for _, d in sheets.random_sheets(seed, count, 101)]
     return b''.join(sheets.packed(d) for d in listed)
 
 

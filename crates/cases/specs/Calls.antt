@@ -13,6 +13,7 @@ use Rattle.search.specs.declared.Stepped.the-variants.{Next, Ended, NoRoom}
 use Rattle.search.specs.declared.Own.the-variants.{Is, Ended as OwnEnded, NoRoom as OwnNoRoom}
 use Rattle.nodes.specs.Nets.{geometry}
 use Rattle.report.specs.declared.Reported.the-variants.{Told, Running, NoRoom as ReportNoRoom}
+use Rattle.report.specs.Reports.{output}
 use Rattle.opening.specs.declared.Opened.{Opened}
 use Rattle.opening.specs.declared.Opened.the-variants.{Open, BadLine, BadQuestion, NoRoom as OpenNoRoom}
 use Rattle.opening.specs.Opens.{openDef}
@@ -37,15 +38,15 @@ said (stepped NoRoom) = 19 ∷ []
 said (judged (Is v)) = verdictNumber v ∷ []
 said (judged OwnEnded) = 20 ∷ []
 said (judged OwnNoRoom) = 19 ∷ []
-said (reported (Told w c n) slice) = wordNumber w ∷ c .pairs ∷ c .visits ∷ c .splits ∷ c .settled ∷ c .given ∷ c .left ∷ n ∷ []
-said (reported Running slice) = 21 ∷ []
-said (reported ReportNoRoom slice) = 19 ∷ []
+said (reported (Told w c n) o) = wordNumber w ∷ c .pairs ∷ c .visits ∷ c .splits ∷ c .settled ∷ c .given ∷ c .left ∷ n ∷ []
+said (reported Running o) = 21 ∷ []
+said (reported ReportNoRoom o) = 19 ∷ []
 
 -- a report's slice
 abbrev pub sliceOf : Answer → List Float
 sliceOf (stepped a) = []
 sliceOf (judged a) = []
-sliceOf (reported a slice) = slice
+sliceOf (reported a o) = o .regions
 
 -- the calls, each with what it answers
 pub record Asking : Type 0 where
@@ -58,7 +59,7 @@ asking c a = record { call = c; answer = a }
 abbrev pub askings : List Asking
 askings =
     -- before the end a report is refused
-    asking (report whole (replicate 20 zero64)) (21 ∷ [])
+    asking (report whole (output (replicate 20 zero64) (replicate 2 0))) (21 ∷ [])
     -- the tests say Split; a step and an own verdict that are lent too little are refused
     ∷ asking (own whole) (2 ∷ [])
     ∷ asking (step Settled shortRaw) (19 ∷ [])
@@ -71,10 +72,10 @@ askings =
     -- after the end
     ∷ asking (step Settled shortRaw) (20 ∷ [])
     ∷ asking (own whole) (20 ∷ [])
-    ∷ asking (report whole (replicate 19 zero64)) (19 ∷ [])
+    ∷ asking (report whole (output (replicate 19 zero64) (replicate 2 0))) (19 ∷ [])
     -- budget; the two halves touch and are one region; a second report says the same
-    ∷ asking (report whole (replicate 20 zero64)) (1 ∷ 1 ∷ 3 ∷ 1 ∷ 0 ∷ 1 ∷ 1 ∷ 1 ∷ [])
-    ∷ asking (report whole (replicate 20 two64)) (1 ∷ 1 ∷ 3 ∷ 1 ∷ 0 ∷ 1 ∷ 1 ∷ 1 ∷ [])
+    ∷ asking (report whole (output (replicate 20 zero64) (replicate 2 0))) (1 ∷ 1 ∷ 3 ∷ 1 ∷ 0 ∷ 1 ∷ 1 ∷ 1 ∷ [])
+    ∷ asking (report whole (output (replicate 20 two64) (replicate 2 0))) (1 ∷ 1 ∷ 3 ∷ 1 ∷ 0 ∷ 1 ∷ 1 ∷ 1 ∷ [])
     ∷ []
 
 abbrev pub answered : Opened → Memory → List Answer

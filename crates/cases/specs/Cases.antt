@@ -19,7 +19,7 @@ use Rattle.nodes.specs.Nets.{geometry}
 use Rattle.search.specs.Runs.{runDef}
 use Rattle.report.specs.declared.Reported.{Reported}
 use Rattle.report.specs.declared.Reported.the-variants.{Told, Running, NoRoom as ReportNoRoom}
-use Rattle.report.specs.Reports.{reportDef}
+use Rattle.report.specs.Reports.{Output, output, reportDef}
 use Rattle.opening.specs.declared.Opened.{Opened}
 use Rattle.opening.specs.declared.Opened.the-variants.{Open, BadLine, BadQuestion, NoRoom as OpenNoRoom}
 use Rattle.opening.specs.Opens.{openDef, openedNumber}
@@ -49,29 +49,31 @@ question a b gap splits = record { line1 = a; lo1 = zero64; hi1 = one64; line2 =
 abbrev pub room : ℕ → Memory
 room splits = memory (replicate 520 zero64) (replicate 520 zero64) (replicate 260 zero64) (replicate 65 0) (replicate (suc splits * 10) zero64)
 
--- an answer in numbers: the word's; pairs, visits, splits, settled, given, left and the allowance unspent; the regions' floats; the range ends of the nodes left. Or a refusal's number.
+-- an answer in numbers: the word's; pairs, visits, splits, settled, given, left and the allowance unspent; the regions' floats and marks; the range ends of the nodes left. Or a refusal's number.
 pub record Answer : Type 0 where
   pub word : ℕ
   pub counts : List ℕ
   pub regions : List Float
+  pub marks : List ℕ
   pub left : List Float
 
 abbrev pub refused : ℕ → Answer
-refused n = record { word = n; counts = []; regions = []; left = [] }
+refused n = record { word = n; counts = []; regions = []; marks = []; left = [] }
 
-abbrev pub told : Reported → List Float → List Float → Answer
-told (Told w c n) slice ranges =
+abbrev pub told : Reported → Output → List Float → Answer
+told (Told w c n) o ranges =
     record {
       word = wordNumber w;
       counts = c .pairs ∷ c .visits ∷ c .splits ∷ c .settled ∷ c .given ∷ c .left ∷ c .unspent ∷ [];
-      regions = take (n * 10) slice;
+      regions = take (n * 10) (o .regions);
+      marks = take n (o .marks);
       left = take (c .left * 4) ranges;
     }
-told Running slice ranges = refused 21
-told ReportNoRoom slice ranges = refused 19
+told Running o ranges = refused 21
+told ReportNoRoom o ranges = refused 19
 
 abbrev pub reportedOf : ℕ → Stepped → Memory → Answer
-reportedOf splits (Next x) u = let r = reportDef geometry x u (replicate (suc splits * 10) zero64) in told (r .answer) (r .slice) (r .memory .ranges)
+reportedOf splits (Next x) u = let r = reportDef geometry x u (output (replicate (suc splits * 10) zero64) (replicate (suc splits) 0)) in told (r .answer) (r .output) (r .memory .ranges)
 reportedOf splits Ended u = refused 20
 reportedOf splits NoRoom u = refused 19
 
@@ -133,19 +135,19 @@ starred =
     ∷ pieces lineOfTwo zero64 two64 (at zero64 zero64 (at zero64 two64 (at one64 two64 (at one64 two64 (at two64 two64 (at two64 zero64 []))))))
     -- A with (0,2,0) to (2,0,0), gap 0: S 0 gives budget, left 1
     ∷ searching (question lineA (straight zero64 two64 two64 zero64) zero64 0)
-    (record { word = 1; counts = 1 ∷ 1 ∷ 0 ∷ 0 ∷ 0 ∷ 1 ∷ 0 ∷ []; regions = wholeRegion two64; left = zero64 ∷ one64 ∷ zero64 ∷ one64 ∷ [] })
+    (record { word = 1; counts = 1 ∷ 1 ∷ 0 ∷ 0 ∷ 0 ∷ 1 ∷ 0 ∷ []; regions = wholeRegion two64; marks = 0 ∷ []; left = zero64 ∷ one64 ∷ zero64 ∷ one64 ∷ [] })
     -- S 1 halves the second, visits 2, splits 1, left 2, one region of whole ranges
     ∷ searching (question lineA (straight zero64 two64 two64 zero64) zero64 1)
-    (record { word = 1; counts = 1 ∷ 2 ∷ 1 ∷ 0 ∷ 0 ∷ 2 ∷ 0 ∷ []; regions = wholeRegion two64; left = zero64 ∷ one64 ∷ half64 ∷ one64 ∷ zero64 ∷ one64 ∷ zero64 ∷ half64 ∷ [] })
+    (record { word = 1; counts = 1 ∷ 2 ∷ 1 ∷ 0 ∷ 0 ∷ 2 ∷ 0 ∷ []; regions = wholeRegion two64; marks = 0 ∷ []; left = zero64 ∷ one64 ∷ half64 ∷ one64 ∷ zero64 ∷ one64 ∷ zero64 ∷ half64 ∷ [] })
     -- with (1,0,0) to (3,2,0): gap 0.5 complete, settled 1
     ∷ searching (question lineA (straight one64 zero64 three64 two64) half64 0)
-    (record { word = 0; counts = 1 ∷ 1 ∷ 0 ∷ 1 ∷ 0 ∷ 0 ∷ 0 ∷ []; regions = []; left = [] })
+    (record { word = 0; counts = 1 ∷ 1 ∷ 0 ∷ 1 ∷ 0 ∷ 0 ∷ 0 ∷ []; regions = []; marks = []; left = [] })
     -- gap 1 unseparated, given 1
     ∷ searching (question lineA (straight one64 zero64 three64 two64) one64 0)
-    (record { word = 2; counts = 1 ∷ 1 ∷ 0 ∷ 0 ∷ 1 ∷ 0 ∷ 0 ∷ []; regions = wholeRegion three64; left = [] })
+    (record { word = 2; counts = 1 ∷ 1 ∷ 0 ∷ 0 ∷ 1 ∷ 0 ∷ 0 ∷ []; regions = wholeRegion three64; marks = 0 ∷ []; left = [] })
     -- with (10,0,0) to (12,2,0), gap 0: pairs 0, complete
     ∷ searching (question lineA (straight ten64 zero64 twelve64 two64) zero64 0)
-    (record { word = 0; counts = 0 ∷ 0 ∷ 0 ∷ 0 ∷ 0 ∷ 0 ∷ 0 ∷ []; regions = []; left = [] })
+    (record { word = 0; counts = 0 ∷ 0 ∷ 0 ∷ 0 ∷ 0 ∷ 0 ∷ 0 ∷ []; regions = []; marks = []; left = [] })
     ∷ []
 
 -- ---- further cases
@@ -287,7 +289,7 @@ closed =
 abbrev pub searchOfTwo : Question → Answer
 searchOfTwo q =
     let u = memory (replicate 528 zero64) (replicate 528 zero64) (replicate 264 zero64) (replicate 66 0) (replicate 20 zero64) in
-    let o = openDef q (replicate 24 zero64) (replicate 8 zero64) u in
+    let o = openDef q (replicate 32 zero64) (replicate 8 zero64) u in
     ranFrom 1 (o .answer) (o .memory)
 
 -- a range of a line from 0, against all of a straight one, at gap 0 and S 0
@@ -317,6 +319,7 @@ ThreePieces =
       regions = floats (
           0 ∷ 0x3ff0_0000_0000_0000 ∷ 0 ∷ 0x3ff0_0000_0000_0000 ∷ 0xbff0_0000_0000_0000 ∷ 0 ∷ 0xbff0_0000_0000_0000 ∷ 0x4024_0000_0000_0000 ∷ 0x4010_0000_0000_0000 ∷ 0x4008_0000_0000_0000 ∷
           0x4000_0000_0000_0000 ∷ 0x4008_0000_0000_0000 ∷ 0 ∷ 0x3ff0_0000_0000_0000 ∷ 0xbff0_0000_0000_0000 ∷ 0xc000_0000_0000_0000 ∷ 0xc008_0000_0000_0000 ∷ 0x4024_0000_0000_0000 ∷ 0x4010_0000_0000_0000 ∷ 0x4008_0000_0000_0000 ∷ []);
+      marks = 0 ∷ 1 ∷ [];
       left = zero64 ∷ one64 ∷ zero64 ∷ one64 ∷ two64 ∷ three64 ∷ zero64 ∷ one64 ∷ [];
     })
 
@@ -339,5 +342,32 @@ TwoPieces =
       word = 1;
       counts = 2 ∷ 1 ∷ 0 ∷ 0 ∷ 0 ∷ 2 ∷ 0 ∷ [];
       regions = zero64 ∷ two64 ∷ zero64 ∷ one64 ∷ zero64 ∷ zero64 ∷ zero64 ∷ ofBits binary64 0x4010_0000_0000_0000 ∷ two64 ∷ zero64 ∷ [];
+      marks = 0 ∷ [];
       left = zero64 ∷ one64 ∷ zero64 ∷ one64 ∷ one64 ∷ two64 ∷ zero64 ∷ one64 ∷ [];
+    })
+
+-- degree 1, closed: (0,0,0), (8,0,0), (8,8,0), (0,8,0), knots 0 to 4
+abbrev pub square : Line
+square = record {
+  closed = true;
+  degree = 1;
+  knots = zero64 ∷ one64 ∷ two64 ∷ three64 ∷ ofBits binary64 0x4010_0000_0000_0000 ∷ [];
+  mults = 1 ∷ 1 ∷ 1 ∷ 1 ∷ 1 ∷ [];
+  coords = floats (0 ∷ 0 ∷ 0 ∷ 0x4020_0000_0000_0000 ∷ 0 ∷ 0 ∷ 0x4020_0000_0000_0000 ∷ 0x4020_0000_0000_0000 ∷ 0 ∷ 0 ∷ 0x4020_0000_0000_0000 ∷ 0 ∷ []);
+  weights = [];
+}
+
+-- A whole turn of it against (−1,1,0) to (1,−1,0), across the corner where it starts: the first and the last side wait, two regions that meet over the seam, so one mark.
+abbrev pub OverTheSeam : Type 0
+OverTheSeam =
+    let minus = ofBits binary64 0xbff0_0000_0000_0000 in
+    searchOfTwo (upTo square (ofBits binary64 0x4010_0000_0000_0000) (straight minus one64 one64 minus))
+    ≡ (record {
+      word = 1;
+      counts = 2 ∷ 1 ∷ 0 ∷ 0 ∷ 0 ∷ 2 ∷ 0 ∷ [];
+      regions = floats (
+          0 ∷ 0x3ff0_0000_0000_0000 ∷ 0 ∷ 0x3ff0_0000_0000_0000 ∷ 0xbff0_0000_0000_0000 ∷ 0xbff0_0000_0000_0000 ∷ 0 ∷ 0x4020_0000_0000_0000 ∷ 0x3ff0_0000_0000_0000 ∷ 0 ∷
+          0x4008_0000_0000_0000 ∷ 0x4010_0000_0000_0000 ∷ 0 ∷ 0x3ff0_0000_0000_0000 ∷ 0xbff0_0000_0000_0000 ∷ 0xbff0_0000_0000_0000 ∷ 0 ∷ 0x3ff0_0000_0000_0000 ∷ 0x4020_0000_0000_0000 ∷ 0 ∷ []);
+      marks = 0 ∷ 0 ∷ [];
+      left = zero64 ∷ one64 ∷ zero64 ∷ one64 ∷ three64 ∷ ofBits binary64 0x4010_0000_0000_0000 ∷ zero64 ∷ one64 ∷ [];
     })

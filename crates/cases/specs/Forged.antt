@@ -40,6 +40,7 @@ stateFor f = record {
   width2 = 2;
   gap = zero64;
   stopped = false;
+  terms = record { turn1 = false; turn2 = false; lo1 = zero64; hi1 = zero64; lo2 = zero64; hi2 = zero64 };
 }
 
 -- as much as one pair needs, with that depth in each slot

@@ -1,6 +1,7 @@
 // A sheet on standard input, its answer on standard output.
 ghost use mathlib.Core.Path.{_≡_};
 ghost use lib.ListN.{length};
+ghost use Rattle.sheet.specs.Answers.{longest};
 use libc::STDERR_FILENO;
 use libc::STDIN_FILENO;
 use libc::STDOUT_FILENO;
@@ -13,10 +14,10 @@ fn sheet_room() -> [u8; 16388]
 }
 
 // The longest answer.
-fn answer_room() -> [u8; 145169]
-    ensures { λ r. ⌜ length r ≡ 145169 ⌝ }
+fn answer_room() -> [u8; 162368]
+    ensures { λ r. ⌜ length r ≡ longest ⌝ }
 {
-    [0u8; 145169]
+    [0u8; 162368]
 }
 
 // The answer on standard output; a line on standard error where that didn't take the whole of it.

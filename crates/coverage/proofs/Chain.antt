@@ -17,7 +17,7 @@ use Rattle.machine.specs.Merge.{merged}
 use Rattle.machine.proofs.Cover.{at-most}
 use Rattle.regions.specs.declared.Region.{Region}
 use Rattle.regions.specs.Regions.{merging, flats, regionsIn}
-use Rattle.regions.specs.Reports.{wordFor, reportSlice}
+use Rattle.regions.specs.Reports.{wordFor}
 use Rattle.states.specs.declared.State.{State}
 use Rattle.search.specs.declared.Own.{Own}
 use Rattle.search.specs.declared.Own.the-variants.{Is, Ended as OwnEnded, NoRoom as OwnNoRoom}
@@ -25,9 +25,9 @@ use Rattle.nodes.specs.Geometry.{regionFor, regionOf}
 use Rattle.states.specs.States.{Memory, memory, Sizes, sizes, needed, enough, enoughOwn, isSearch}
 use Rattle.search.specs.Steps.{stepDef, judgeAt, ownDef}
 use Rattle.report.specs.declared.Reported.the-variants.{Told, Running, NoRoom as ReportNoRoom}
-use Rattle.report.specs.Reports.{reporting, leftRegions, rawAfter, writeReport, reportDef}
+use Rattle.report.specs.Reports.{Output, outRoom, written, reporting, leftRegions, rawAfter, writeReport, reportDef}
 use Rattle.coverage.specs.Calls.{Call, step, own, report, Answer, judged, reported, Outcome, lend, giveBack, call, Ran, runAll, stepOutcome, reportOutcome, backIn}
-use Rattle.opening.specs.Asked.{Asked, shape, pairsOf, start, stateOf, tally, netOf1, netOf2, depthOf, rawList}
+use Rattle.opening.specs.Asked.{Asked, shape, pairsOf, start, stateOf, tally, netOf1, netOf2, depthOf, rawList, recordsFor}
 use Rattle.coverage.specs.Rules.{Ruled, lent, suffices, stepRule, testTop, ownRule, heard, reportRule, callRule, RuledAll, ruleAll}
 use Rattle.coverage.specs.Claim.{AllStored}
 use Rattle.coverage.proofs.Refine.{agree-stored, Room, room-of, fits-in, RoomOwn, room-own, start-block, agree-lend, agree-back, lend-back, lend-sizes, back-sizes, Numbers, Held, part1-is, part2-is, flats-length, map-append, length-mapped, raw-more, counts-tally, StepSim, unchanged, moved, search, ruleWith, top-depth, is-search, step-sim}
@@ -43,7 +43,7 @@ pub record Follows (q : Asked) (full : Sizes) (o : Outcome) (r : Ruled q) : Type
   pub state : o .state ≡ stateOf q (r .search)
   pub inv : Inv q full (r .search) (o .memory)
 
-given-small : (q : Asked) (m : Search (shape q)) → Numbers q m → length (m .given) + length (m .stack) ≤ pairsOf q * suc (q .quota)
+given-small : (q : Asked) (m : Search (shape q)) → Numbers q m → length (m .given) + length (m .stack) ≤ recordsFor q
 given-small q m N = let b = N .counts .balance in let a = N .allowance in omega arith
 
 -- what the own verdict reads of the top node
@@ -60,8 +60,8 @@ held-lent q m n u N H R = record {
   raw = take-take (length (m .given) * 10) (n .raw) (u .raw) (fits (length (take (n .raw) (u .raw))) (length-take (n .raw) (u .raw)) (R .raw)) ∙ H .raw;
 }
   where
-    fits : (k : ℕ) → k ≡ min (n .raw) (length (u .raw)) → pairsOf q * suc (q .quota) * 10 ≤ k → length (m .given) * 10 ≤ n .raw
-    fits k e h = let g = given-small q m N in let f : length (m .given) * 10 ≤ pairsOf q * suc (q .quota) * 10 = mul-le-mul-right 10 (omega arith) in omega arith
+    fits : (k : ℕ) → k ≡ min (n .raw) (length (u .raw)) → recordsFor q * 10 ≤ k → length (m .given) * 10 ≤ n .raw
+    fits k e h = let g = given-small q m N in let f : length (m .given) * 10 ≤ recordsFor q * 10 = mul-le-mul-right 10 (omega arith) in omega arith
 
 held-back : (q : Asked) (m : Search (shape q)) (n : Sizes) (w u : Memory) → Numbers q m → Held q m w → Room q (sizes w) → Held q m (giveBack n w u)
 held-back q m n w u N H R = record {
@@ -70,7 +70,7 @@ held-back q m n w u N H R = record {
       (at-most (shape q) (pairsOf q) (m .stack) (N .counts .steep)) (H .nodes);
   raw =
       take-append-le (length (m .given) * 10) (w .raw) (drop (n .raw) (u .raw))
-      (let g = given-small q m N in fits-in (length (m .given)) (pairsOf q * suc (q .quota)) 10 (length (w .raw)) (omega arith) (R .raw)) ∙ H .raw;
+      (let g = given-small q m N in fits-in (length (m .given)) (recordsFor q) 10 (length (w .raw)) (omega arith) (R .raw)) ∙ H .raw;
 }
 
 -- a call on what is lent, and the memory given back
@@ -168,7 +168,7 @@ module _ (q : Asked) (m : Search (shape q)) (w : Memory) (N : Numbers q m) (R : 
   left-count = ap length lefts ∙ length-mapped (regionOf (q .geometry) (q .gap)) (reverse (m .stack)) ∙ length-reverse (m .stack)
 
   room-raw : (length (m .given) + length (m .stack)) * 10 ≤ length (w .raw)
-  room-raw = fits-in (length (m .given) + length (m .stack)) (pairsOf q * suc (q .quota)) 10 (length (w .raw)) (given-small q m N) (R .raw)
+  room-raw = fits-in (length (m .given) + length (m .stack)) (recordsFor q) 10 (length (w .raw)) (given-small q m N) (R .raw)
 
   given-room : length (m .given) * 10 ≤ length (w .raw)
   given-room = let a = room-raw in let b = add-mul (length (m .given)) (length (m .stack)) 10 in omega arith
@@ -189,19 +189,19 @@ module _ (q : Asked) (m : Search (shape q)) (w : Memory) (N : Numbers q m) (R : 
       ∙ ap (λ (z : List Region). map f (m .given) ++ z) lefts
       ∙ sym (map-append f (m .given) (reverse (m .stack)))
 
-  write-sim : (slice : List Float)
-      → StepSim q (reportOutcome (stateOf q m) (writeReport (q .geometry) (stateOf q m) w slice))
+  write-sim : (out : Output)
+      → StepSim q (reportOutcome (stateOf q m) (writeReport (q .geometry) (stateOf q m) w out))
       (record {
         answer = reported (Told (wordFor (length (m .given)) (length (m .stack))) (tally q m) (length (merged merging (rawList q m))))
-            (reportSlice (length (m .given) + length (m .stack)) (merged merging (rawList q m)) slice);
+            (written (q .terms) (length (m .given) + length (m .stack)) (merged merging (rawList q m)) out);
         search = m;
       })
       m w
-  write-sim slice =
+  write-sim out =
       let X = leftRegions (q .geometry) (stateOf q m) (w .nets1) (w .nets2) (w .ranges) (length (m .stack)) in
       moved
       (λ i. reported (Told (wordFor (length (m .given)) (length (m .stack))) (counts-tally q m i) (length (merged merging (raws-are i))))
-      (reportSlice (length (m .given) + length (m .stack)) (merged merging (raws-are i)) slice))
+      (written (q .terms) (length (m .given) + length (m .stack)) (merged merging (raws-are i)) out))
       refl
       (record {
         nodes =
@@ -220,67 +220,67 @@ module _ (q : Asked) (m : Search (shape q)) (w : Memory) (N : Numbers q m) (R : 
       })
       R N
 
-abbrev pub reportWith : (q : Asked) → Bool → List Float → Search (shape q) → Answer
-reportWith q e slice m =
+abbrev pub reportWith : (q : Asked) → Bool → Output → Search (shape q) → Answer
+reportWith q e out m =
     cond (ended (shape q) m)
-    (cond (e && leb (pairsOf q * suc (q .quota) * 10) (length slice))
+    (cond (e && outRoom (recordsFor q) out)
     (let raws = rawList q m in
     reported (Told (wordFor (length (m .given)) (length (m .stack))) (tally q m) (length (merged merging raws)))
-    (reportSlice (length (m .given) + length (m .stack)) (merged merging raws) slice))
-    (reported ReportNoRoom slice))
-    (reported Running slice)
+    (written (q .terms) (length (m .given) + length (m .stack)) (merged merging raws) out))
+    (reported ReportNoRoom out))
+    (reported Running out)
 
 module _ (q : Asked) (full : Sizes) where
-  report-ended : (m : Search (shape q)) (w : Memory) (slice : List Float) → Numbers q m → (Room q (sizes w) → Held q m w)
+  report-ended : (m : Search (shape q)) (w : Memory) (out : Output) → Numbers q m → (Room q (sizes w) → Held q m w)
       → StepSim q (reportOutcome (stateOf q m) (cond
-      (enough (needed (stateOf q (start q))) (sizes w) && leb (pairsOf q * suc (q .quota) * 10) (length slice) && isSearch (stateOf q m) w)
-      (writeReport (q .geometry) (stateOf q m) w slice) (reporting ReportNoRoom w slice)))
+      (enough (needed (stateOf q (start q))) (sizes w) && outRoom (recordsFor q) out && isSearch (stateOf q m) w)
+      (writeReport (q .geometry) (stateOf q m) w out) (reporting ReportNoRoom w out)))
       (record {
-        answer = cond (enough (needed (stateOf q (start q))) (sizes w) && leb (pairsOf q * suc (q .quota) * 10) (length slice))
+        answer = cond (enough (needed (stateOf q (start q))) (sizes w) && outRoom (recordsFor q) out)
             (reported (Told (wordFor (length (m .given)) (length (m .stack))) (tally q m) (length (merged merging (rawList q m))))
-            (reportSlice (length (m .given) + length (m .stack)) (merged merging (rawList q m)) slice))
-            (reported ReportNoRoom slice);
+            (written (q .terms) (length (m .given) + length (m .stack)) (merged merging (rawList q m)) out))
+            (reported ReportNoRoom out);
         search = m;
       }) m w
-  report-ended m w slice N H =
-      go (enough (needed (stateOf q (start q))) (sizes w)) (leb (pairsOf q * suc (q .quota) * 10) (length slice)) (isSearch (stateOf q m) w)
+  report-ended m w out N H =
+      go (enough (needed (stateOf q (start q))) (sizes w)) (outRoom (recordsFor q) out) (isSearch (stateOf q m) w)
       (room-of q (sizes w)) (λ (R : Room q (sizes w)). is-search q m w N (top-depth q w (m .stack) (H R .nodes)))
     where
       go : (e b s : Bool) → (T e → Room q (sizes w)) → (Room q (sizes w) → T s)
-          → StepSim q (reportOutcome (stateOf q m) (cond (e && b && s) (writeReport (q .geometry) (stateOf q m) w slice) (reporting ReportNoRoom w slice)))
+          → StepSim q (reportOutcome (stateOf q m) (cond (e && b && s) (writeReport (q .geometry) (stateOf q m) w out) (reporting ReportNoRoom w out)))
           (record {
             answer = cond (e && b)
                 (reported (Told (wordFor (length (m .given)) (length (m .stack))) (tally q m) (length (merged merging (rawList q m))))
-                (reportSlice (length (m .given) + length (m .stack)) (merged merging (rawList q m)) slice))
-                (reported ReportNoRoom slice);
+                (written (q .terms) (length (m .given) + length (m .stack)) (merged merging (rawList q m)) out))
+                (reported ReportNoRoom out);
             search = m;
           }) m w
       go false b s f g = unchanged refl refl refl refl
       go true false s f g = unchanged refl refl refl refl
       go true true false f g = absurd (g (f tt))
-      go true true true f g = write-sim q m w N (f tt) (H (f tt)) slice
+      go true true true f g = write-sim q m w N (f tt) (H (f tt)) out
 
   pub report-fields : (l : List (Node (shape q))) (se : List (Settling (shape q))) (gi : List (Node (shape q))) (vi sp un : ℕ) (st to : Bool)
-      (w : Memory) (slice : List Float)
+      (w : Memory) (out : Output)
       → Numbers q (search q l se gi vi sp un st to) → (Room q (sizes w) → Held q (search q l se gi vi sp un st to) w)
-      → StepSim q (reportOutcome (stateOf q (search q l se gi vi sp un st to)) (reportDef (q .geometry) (stateOf q (search q l se gi vi sp un st to)) w slice))
+      → StepSim q (reportOutcome (stateOf q (search q l se gi vi sp un st to)) (reportDef (q .geometry) (stateOf q (search q l se gi vi sp un st to)) w out))
       (record {
-        answer = reportWith q (enough (needed (stateOf q (start q))) (sizes w)) slice (search q l se gi vi sp un st to);
+        answer = reportWith q (enough (needed (stateOf q (start q))) (sizes w)) out (search q l se gi vi sp un st to);
         search = search q l se gi vi sp un st to;
       }) (search q l se gi vi sp un st to) w
-  report-fields l se gi vi sp un true to w slice N H = report-ended (search q l se gi vi sp un true to) w slice N H
-  report-fields [] se gi vi sp un false to w slice N H = report-ended (search q [] se gi vi sp un false to) w slice N H
-  report-fields (n ∷ r) se gi vi sp un false to w slice N H = unchanged refl refl refl refl
+  report-fields l se gi vi sp un true to w out N H = report-ended (search q l se gi vi sp un true to) w out N H
+  report-fields [] se gi vi sp un false to w out N H = report-ended (search q [] se gi vi sp un false to) w out N H
+  report-fields (n ∷ r) se gi vi sp un false to w out N H = unchanged refl refl refl refl
 
-  pub report-next : (m : Search (shape q)) (u : Memory) (n : Sizes) (slice : List Float) → Inv q full m u
-      → Follows q full (backIn n u (reportOutcome (stateOf q m) (reportDef (q .geometry) (stateOf q m) (lend n u) slice)))
-      (record { answer = reportRule q full n slice m; search = m })
-  report-next m u n slice I =
-      back-sim q full m n u (reportOutcome (stateOf q m) (reportDef (q .geometry) (stateOf q m) (lend n u) slice))
-      (record { answer = reportRule q full n slice m; search = m }) I
-      (subst (λ (b : Bool). StepSim q (reportOutcome (stateOf q m) (reportDef (q .geometry) (stateOf q m) (lend n u) slice))
-      (record { answer = reportWith q b slice m; search = m }) m (lend n u)) (suffices-is q full n u (I .lengths))
-      (report-fields (m .stack) (m .settled) (m .given) (m .visits) (m .splits) (m .unspent) (m .stopped) (m .told) (lend n u) slice (I .numbers)
+  pub report-next : (m : Search (shape q)) (u : Memory) (n : Sizes) (out : Output) → Inv q full m u
+      → Follows q full (backIn n u (reportOutcome (stateOf q m) (reportDef (q .geometry) (stateOf q m) (lend n u) out)))
+      (record { answer = reportRule q full n out m; search = m })
+  report-next m u n out I =
+      back-sim q full m n u (reportOutcome (stateOf q m) (reportDef (q .geometry) (stateOf q m) (lend n u) out))
+      (record { answer = reportRule q full n out m; search = m }) I
+      (subst (λ (b : Bool). StepSim q (reportOutcome (stateOf q m) (reportDef (q .geometry) (stateOf q m) (lend n u) out))
+      (record { answer = reportWith q b out m; search = m }) m (lend n u)) (suffices-is q full n u (I .lengths))
+      (report-fields (m .stack) (m .settled) (m .given) (m .visits) (m .splits) (m .unspent) (m .stopped) (m .told) (lend n u) out (I .numbers)
       (held-lent q m n u (I .numbers) (I .held))))
 
 -- ---- any call, and any list of calls
@@ -310,7 +310,7 @@ module _ (q : Asked) (low : (w : ℕ) (l : List Float) → length l ≡ 4 * w �
   call-next (own n) m u I =
       record
       { answer = ap judged (own-is q low upp full m u n I); state = heard-state (ownRule q full n m) m; inv = heard-next (ownRule q full n m) m u I }
-  call-next (report n slice) m u I = report-next q full m u n slice I
+  call-next (report n out) m u I = report-next q full m u n out I
 
   pub record Chained (r : Ran) (a : RuledAll q) : Type 0 where
     pub answers : r .answers ≡ a .answers

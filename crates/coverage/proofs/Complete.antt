@@ -7,7 +7,7 @@ use Prim.Native.Nat.{ℕ, zero, suc, _+_, _*_, _≤_, _<_, min}
 use borrow.Author.Tests.{le-leb}
 use native.Mathlib.Omega.{arith}
 use lib.Dec.{T, leb}
-use lib.ListN.{length}
+use lib.ListN.{take, length}
 use lib.Ieee.{Float}
 use Rattle.lists.specs.Members.{Any, All}
 use Rattle.verdicts.specs.declared.Verdict.{Verdict}
@@ -18,10 +18,11 @@ use Rattle.machine.specs.Covered.{SetApart, Covered, byBoxes, bySettled, byGive
 use Rattle.regions.specs.declared.Word.{Word}
 use Rattle.regions.specs.declared.Word.the-variants.{Complete}
 use Rattle.regions.specs.Regions.{merging, flats}
-use Rattle.regions.specs.Reports.{wordFor, reportSlice}
+use Rattle.regions.specs.declared.Region.{Region}
+use Rattle.regions.specs.Reports.{wordFor}
 use Rattle.states.specs.declared.State.{State}
 use Rattle.states.specs.declared.Counts.{Counts}
-use Rattle.states.specs.States.{Memory, Sizes, sizes, needed, enough, enoughOwn, isSearch, over}
+use Rattle.states.specs.States.{Memory, Sizes, sizes, needed, enough, enoughOwn, isSearch, over, recordsOf}
 use Rattle.search.specs.declared.Stepped.{Stepped}
 use Rattle.search.specs.declared.Stepped.the-variants.{Next, NoRoom}
 use Rattle.search.specs.declared.Own.{Own}
@@ -32,8 +33,14 @@ use Rattle.search.specs.Steps.{Stepping, stepping, stepDef, ownDef}
 use Rattle.search.specs.Runs.{carriedOut, turned, runFor, runDef}
 use Rattle.report.specs.declared.Reported.{Reported}
 use Rattle.report.specs.declared.Reported.the-variants.{Told, Running, NoRoom as ReportNoRoom}
-use Rattle.report.specs.Reports.{Reporting, reporting, writeReport, reportDef}
-use Rattle.opening.specs.Asked.{Asked, shape, pieces1, pieces2, pairsOf, start, stateOf, tally, rawList, netOf1, netOf2, openMemory}
+use Rattle.report.specs.Reports.{Output, outRoom, Reporting, reporting, marksFor, written, writeReport, reportDef}
+use Rattle.terms.specs.declared.Terms.{Terms}
+use Rattle.terms.specs.Terms.{seamOf1, seamOf2}
+use Rattle.machine.specs.Marks.{Marked, marksOf}
+use Rattle.machine.proofs.Marks.{marked-only}
+use Rattle.stretches.specs.Stretches.{nearAt}
+use Rattle.stretches.proofs.Marked.{region-marks}
+use Rattle.opening.specs.Asked.{Asked, shape, pieces1, pieces2, pairsOf, start, stateOf, tally, rawList, netOf1, netOf2, openMemory, recordsFor}
 use Rattle.opening.specs.Opens.{searchFor}
 use Rattle.coverage.specs.Calls.{Call, step, own as ownCall, Answer, stepped, reported, Outcome, stepOutcome, reportOutcome}
 use Rattle.coverage.specs.Rules.{Ruled, lent, suffices, sufficesOwn, stepRule, ownRule, heard, callRule, ruleAll}
@@ -184,12 +191,12 @@ module _ (q : Asked) (low : (w : ℕ) (l : List Float) → length l ≡ 4 * w �
   from-start u F I = loop (2 * start q .unspent + length (start q .stack) + 1) (start q) u I (ok-start q F) tt (inr (omega arith))
 
 -- ---- the word
-told-word : (G : Geometry) (x : State) (u : Memory) (slice : List Float) (w : Word) (c : Counts) (k : ℕ) → reportDef G x u slice .answer ≡ Told w c k
+told-word : (G : Geometry) (x : State) (u : Memory) (out : Output) (w : Word) (c : Counts) (k : ℕ) → reportDef G x u out .answer ≡ Told w c k
     → wordFor (x .given) (x .waiting) ≡ w
-told-word G x u slice w c k e = go (over x) (enough (needed x) (sizes u) && leb (x .pairs * suc (x .quota) * 10) (length slice) && isSearch x u) e
+told-word G x u out w c k e = go (over x) (enough (needed x) (sizes u) && outRoom (recordsOf x) out && isSearch x u) e
   where
     go : (a b : Bool)
-        → cond {A = Reporting} a (cond b (writeReport G x u slice) (reporting ReportNoRoom u slice)) (reporting Running u slice) .answer ≡ Told w c k
+        → cond {A = Reporting} a (cond b (writeReport G x u out) (reporting ReportNoRoom u out)) (reporting Running u out) .answer ≡ Told w c k
         → wordFor (x .given) (x .waiting) ≡ w
     go true true e = cc
     go true false e = absurd (let z : _≡_ {A = ℕ} 0 1 = cc in omega arith)
@@ -216,11 +223,11 @@ clear-all q full K O g l = record { pass = all-pass q (looped q full .settled) (
     by s t (byWaiting h) = absurd (none-in (InNode (shape q) s t) (looped q full .stack) l h)
 
 -- ---- the report after the loop
-same-answer : (a b : Reported) (l m : List Float) → _≡_ {A = Answer} (reported a l) (reported b m) → a ≡ b
+same-answer : (a b : Reported) (l m : Output) → _≡_ {A = Answer} (reported a l) (reported b m) → a ≡ b
 same-answer a b l m e = cc
 
-same-slice : (a b : Reported) (l m : List Float) → _≡_ {A = Answer} (reported a l) (reported b m) → l ≡ m
-same-slice a b l m e = cc
+same-out : (a b : Reported) (l m : Output) → _≡_ {A = Answer} (reported a l) (reported b m) → l ≡ m
+same-out a b l m e = cc
 
 sim-answer : (q : Asked) (o : Outcome) (r : Ruled q) (m : Search (shape q)) (w : Memory) → StepSim q o r m w → o .answer ≡ r .answer
 sim-answer q o r m w (unchanged a s e f) = a
@@ -228,35 +235,35 @@ sim-answer q o r m w (moved a s H z R N) = a
 
 module _ (q : Asked) (full : Sizes) (room : enough (needed (stateOf q (start q))) full ≡ true) (m : Search (shape q)) (w : Memory)
     (I : Inv q full m w) (E : T (ended (shape q) m))
-    (slice : List Float) (fits : leb (pairsOf q * suc (q .quota) * 10) (length slice) ≡ true) where
-  told-all : _≡_ {A = Answer} (reported (reportDef (q .geometry) (stateOf q m) w slice .answer) (reportDef (q .geometry) (stateOf q m) w slice .slice))
+    (out : Output) (fits : outRoom (recordsFor q) out ≡ true) where
+  told-all : _≡_ {A = Answer} (reported (reportDef (q .geometry) (stateOf q m) w out .answer) (reportDef (q .geometry) (stateOf q m) w out .output))
       (reported (Told (wordFor (length (m .given)) (length (m .stack))) (tally q m) (length (merged merging (rawList q m))))
-      (reportSlice (length (m .given) + length (m .stack)) (merged merging (rawList q m)) slice))
+      (written (q .terms) (length (m .given) + length (m .stack)) (merged merging (rawList q m)) out))
   told-all =
-      let o = reportOutcome (stateOf q m) (reportDef (q .geometry) (stateOf q m) w slice) in
-      let S = report-fields q full (m .stack) (m .settled) (m .given) (m .visits) (m .splits) (m .unspent) (m .stopped) (m .told) w slice (I .numbers) (λ R. I .held) in
-      sim-answer q o (record { answer = reportWith q (enough (needed (stateOf q (start q))) (sizes w)) slice m; search = m }) m w S
-      ∙ go (ended (shape q) m) (enough (needed (stateOf q (start q))) (sizes w)) (leb (pairsOf q * suc (q .quota) * 10) (length slice)) E
+      let o = reportOutcome (stateOf q m) (reportDef (q .geometry) (stateOf q m) w out) in
+      let S = report-fields q full (m .stack) (m .settled) (m .given) (m .visits) (m .splits) (m .unspent) (m .stopped) (m .told) w out (I .numbers) (λ R. I .held) in
+      sim-answer q o (record { answer = reportWith q (enough (needed (stateOf q (start q))) (sizes w)) out m; search = m }) m w S
+      ∙ go (ended (shape q) m) (enough (needed (stateOf q (start q))) (sizes w)) (outRoom (recordsFor q) out) E
       (ap (enough (needed (stateOf q (start q)))) (I .lengths) ∙ room) fits
     where
       go : (a b c : Bool) → T a → b ≡ true → c ≡ true
           → cond {A = Answer} a (cond (b && c) (reported
           (Told (wordFor (length (m .given)) (length (m .stack))) (tally q m) (length (merged merging (rawList q m))))
-          (reportSlice (length (m .given) + length (m .stack)) (merged merging (rawList q m)) slice)) (reported ReportNoRoom slice))
-          (reported Running slice)
+          (written (q .terms) (length (m .given) + length (m .stack)) (merged merging (rawList q m)) out)) (reported ReportNoRoom out))
+          (reported Running out)
           ≡ reported (Told (wordFor (length (m .given)) (length (m .stack))) (tally q m) (length (merged merging (rawList q m))))
-          (reportSlice (length (m .given) + length (m .stack)) (merged merging (rawList q m)) slice)
+          (written (q .terms) (length (m .given) + length (m .stack)) (merged merging (rawList q m)) out)
       go true true true t e f = refl
       go true true false t e f = absurd (false≢true f)
       go true false c t e f = absurd (false≢true e)
       go false b c t e f = absurd t
 
 reports-all : (q : Asked) (full : Sizes) → enough (needed (stateOf q (start q))) full ≡ true → (w : Memory) → Inv q full (looped q full) w → Ok q (looped q full)
-    → AllOwn q (looped q full .settled) → T (ended (shape q) (looped q full)) → (slice : List Float)
-    → leb (pairsOf q * suc (q .quota) * 10) (length slice) ≡ true → Reports q full (reportDef (q .geometry) (stateOf q (looped q full)) w slice)
-reports-all q full room w I K O E slice fits =
+    → AllOwn q (looped q full .settled) → T (ended (shape q) (looped q full)) → (out : Output)
+    → outRoom (recordsFor q) out ≡ true → Reports q full (reportDef (q .geometry) (stateOf q (looped q full)) w out)
+reports-all q full room w I K O E out fits =
     let m = looped q full in
-    let e = told-all q full room m w I E slice fits in
+    let e = told-all q full room m w I E out fits in
     record {
       word = wordFor (length (m .given)) (length (m .stack));
       counts = tally q m;
@@ -264,8 +271,8 @@ reports-all q full room w I K O E slice fits =
       told = same-answer _ _ _ _ e;
       good =
           subst
-          (λ (l : List Float). GoodReport q m (wordFor (length (m .given)) (length (m .stack))) (tally q m) (length (merged merging (rawList q m))) l)
-          (sym (same-slice _ _ _ _ e)) (good-report q m slice K E);
+          (λ (l : Output). GoodReport q m (wordFor (length (m .given)) (length (m .stack))) (tally q m) (length (merged merging (rawList q m))) l)
+          (sym (same-out _ _ _ _ e)) (good-report q m out K E);
       pass = all-pass q (m .settled) (K .cleared) O;
     }
 
@@ -273,10 +280,10 @@ reports-all q full room w I K O E slice fits =
 abbrev Claims : (q : Asked) → Sizes → State → Memory → Type 0
 Claims q full x u =
     Ends q full (runDef (q .geometry) x u)
-    × ((y : State) → runDef (q .geometry) x u .answer ≡ Next y → (slice : List Float) (c : Counts) (k : ℕ)
-    → reportDef (q .geometry) y (runDef (q .geometry) x u .memory) slice .answer ≡ Told Complete c k → Clear q full)
-    × ((y : State) → runDef (q .geometry) x u .answer ≡ Next y → (slice : List Float) → x .pairs * suc (x .quota) * 10 ≤ length slice
-    → Reports q full (reportDef (q .geometry) y (runDef (q .geometry) x u .memory) slice))
+    × ((y : State) → runDef (q .geometry) x u .answer ≡ Next y → (out : Output) (c : Counts) (k : ℕ)
+    → reportDef (q .geometry) y (runDef (q .geometry) x u .memory) out .answer ≡ Told Complete c k → Clear q full)
+    × ((y : State) → runDef (q .geometry) x u .answer ≡ Next y → (out : Output) → recordsOf x * 10 ≤ length (out .regions) → recordsOf x ≤ length (out .marks)
+    → Reports q full (reportDef (q .geometry) y (runDef (q .geometry) x u .memory) out))
 
 pub same-next : (x y : State) → Next x ≡ Next y → x ≡ y
 same-next x y e = cc
@@ -287,17 +294,17 @@ module _ (q : Asked) (u : Memory) (F : Fine q) (room : T (enough (needed (stateO
       let L = from-start q (F .lower-length) (F .upper-length) (sizes u) (as-true (enough (needed (stateOf q (start q))) (sizes u)) room)
       (openMemory q u) F (open-inv q u F room) in (
         record { answer = L .answer; finished = L .finished },
-        λ y e slice c k r.
+        λ y e out c k r.
             let s = same-next y (stateOf q (looped q (sizes u))) (sym e ∙ L .answer) in
-            let w = told-word (q .geometry) y (runDef (q .geometry) (stateOf q (start q)) (openMemory q u) .memory) slice Complete c k r in
+            let w = told-word (q .geometry) y (runDef (q .geometry) (stateOf q (start q)) (openMemory q u) .memory) out Complete c k r in
             let z = word-exact (length (looped q (sizes u) .given)) (length (looped q (sizes u) .stack)) .0 (subst (λ (x : State). wordFor (x .given) (x .waiting) ≡ Complete) s w) in
             clear-all q (sizes u) (L .ok) (L .own) (z .0) (z .1),
-        λ y e slice h.
+        λ y e out h k.
             let s = same-next y (stateOf q (looped q (sizes u))) (sym e ∙ L .answer) in
             let w = runDef (q .geometry) (stateOf q (start q)) (openMemory q u) .memory in
-            subst (λ (x : State). Reports q (sizes u) (reportDef (q .geometry) x w slice)) (sym s)
-            (reports-all q (sizes u) (as-true (enough (needed (stateOf q (start q))) (sizes u)) room) w (L .inv) (L .ok) (L .own) (L .finished) slice
-            (le-leb (pairsOf q * suc (q .quota) * 10) (length slice) h)),
+            subst (λ (x : State). Reports q (sizes u) (reportDef (q .geometry) x w out)) (sym s)
+            (reports-all q (sizes u) (as-true (enough (needed (stateOf q (start q))) (sizes u)) room) w (L .inv) (L .ok) (L .own) (L .finished) out
+            (rw (le-leb (recordsFor q * 10) (length (out .regions)) h, le-leb (recordsFor q) (length (out .marks)) k) refl)),
       )
 
 pub loop-ends : LoopEnds
@@ -310,8 +317,24 @@ pub loop-reports : LoopReports
 loop-reports q p1 p2 u x y e r = opened-fresh q p1 p2 u x (λ (y : State) (m : Memory). Claims (searchFor q) (sizes u) y m) (loop-claims (searchFor q) u) e .2 y r
 
 -- ---- what is told is the loop's, and nothing else
+-- no other marks are as `GoodReport.marked` says
+marks-one : (t : Terms) (out rs : List Region) (k : ℕ) (marks : List ℕ) → k ≡ length out → out ≡ rs → Marked k (nearAt (seamOf1 t) (seamOf2 t) out) (take k marks)
+    → take k marks ≡ marksFor t rs
+marks-one t out rs k marks e f g =
+    let near = nearAt (seamOf1 t) (seamOf2 t) in
+    marked-only k (near out) (take k marks) (marksOf k (near out)) g
+    (subst (λ (n : ℕ). Marked n (near out) (marksOf n (near out))) (sym e) (region-marks (seamOf1 t) (seamOf2 t) out))
+    ∙ (λ i. marksOf ((e ∙ ap length f) i) (near (f i)))
+
 pub one-report : OneReport
-one-report q full o r = (r .good .named, r .good .tallied, r .good .number ∙ ap length (r .good .listed), r .good .read ∙ ap flats (r .good .listed))
+one-report q full o r =
+    let g = r .good in (
+      g .named,
+      g .tallied,
+      g .number ∙ ap length (g .listed),
+      g .read ∙ ap flats (g .listed),
+      marks-one (q .terms) (g .out) _ (r .regions) (o .output .marks) (g .number) (g .listed) (g .marked),
+    )
 
 none-of : {A : Type 0} (P : A → Type 0) (l : List A) → All (λ (e : A). P e → ⊥) l → Any P l → ⊥
 none-of P (x ∷ l) h (inl y) = h .0 y

@@ -28,16 +28,19 @@ use Rattle.regions.specs.declared.Word.the-variants.{Complete}
 use Rattle.regions.specs.Stations.{InRegion}
 use Rattle.regions.specs.Regions.{touchesOf, merging, flats}
 use Rattle.regions.specs.Reports.{wordFor, reportSlice}
+use Rattle.terms.specs.Terms.{seamOf1, seamOf2}
+use Rattle.stretches.proofs.Marked.{report-marked}
+use Rattle.report.specs.Reports.{Output, outRoom, written}
 use Rattle.states.specs.declared.State.{State}
 use Rattle.search.specs.declared.Stepped.the-variants.{Next, Ended, NoRoom}
 use Rattle.search.specs.declared.Own.{Own}
 use Rattle.search.specs.declared.Own.the-variants.{Is, Ended as OwnEnded, NoRoom as OwnNoRoom}
 use Rattle.nodes.specs.Geometry.{regionOf}
-use Rattle.states.specs.States.{Memory, Sizes, sizes, needed, enough}
+use Rattle.states.specs.States.{Memory, Sizes, sizes, needed, enough, allowanceOf}
 use Rattle.search.specs.Steps.{halves}
 use Rattle.report.specs.declared.Reported.the-variants.{Told, Running, NoRoom as ReportNoRoom}
 use Rattle.coverage.specs.Calls.{Call, step, own, report, Answer, stepped, judged, reported, runAll}
-use Rattle.opening.specs.Asked.{Asked, shape, pieces1, pieces2, In1, In2, pairsOf, start, stateOf, tally, netOf1, netOf2, openMemory, rawList}
+use Rattle.opening.specs.Asked.{Asked, shape, pieces1, pieces2, In1, In2, pairsOf, start, stateOf, tally, netOf1, netOf2, openMemory, rawList, allowanceFor, recordsFor}
 use Rattle.coverage.specs.Rules.{Ruled, suffices, sufficesOwn, stepRule, testTop, ownRule, heard, reportRule, callRule, ruleAll}
 use Rattle.coverage.specs.Claim.{bound, Accounted, GoodAnswer, After, Fine, GoodReport}
 use Rattle.coverage.proofs.Refine.{flats-length, search}
@@ -218,7 +221,7 @@ module _ (q : Asked) where
     ok-call : (c : Call) (m : Search (shape q)) → Ok q m → Ok q (callRule q full c m .search)
     ok-call (step v n) m k = ok-step v n m k
     ok-call (own n) m k = ok-heard (ownRule q full n m) m (own-says n m) k
-    ok-call (report n slice) m k = k
+    ok-call (report n out) m k = k
 
     ok-all : (cs : List Call) (m : Search (shape q)) → Ok q m → Ok q (ruleAll q full cs m .search)
     ok-all [] m k = k
@@ -278,14 +281,14 @@ slice-reads n out slice =
     let rest = drop (0 + length (flats out ++ z)) slice in
     ap (take (length out * 10)) (append-assoc (flats out) z rest) ∙ take-at (flats out) (z ++ rest) (length out * 10) (flats-length out)
 
-pub good-report : (q : Asked) (m : Search (shape q)) (slice : List Float) → Ok q m → T (ended (shape q) m)
+pub good-report : (q : Asked) (m : Search (shape q)) (out : Output) → Ok q m → T (ended (shape q) m)
     → GoodReport q m (wordFor (length (m .given)) (length (m .stack))) (tally q m) (length (merged merging (rawList q m)))
-    (reportSlice (length (m .given) + length (m .stack)) (merged merging (rawList q m)) slice)
-good-report q m slice k e =
+    (written (q .terms) (length (m .given) + length (m .stack)) (merged merging (rawList q m)) out)
+good-report q m out k e =
     let raws = rawList q m in
     record {
       out = merged merging raws;
-      read = slice-reads (length (m .given) + length (m .stack)) (merged merging raws) slice;
+      read = slice-reads (length (m .given) + length (m .stack)) (merged merging raws) (out .regions);
       number = refl;
       finished = e;
       tallied = refl;
@@ -293,6 +296,7 @@ good-report q m slice k e =
       named = refl;
       accounted = λ s t a b. account q m k s t (k .covered s t a b);
       disjoint = merged-off merging off-comm raws;
+      marked = report-marked (seamOf1 (q .terms)) (seamOf2 (q .terms)) (merged merging raws) (out .marks);
       exact =
           subst (λ (x : ℕ). (wordFor (length (m .given)) (length (m .stack)) ≡ Complete) ↔ ((length (m .given) ≡ 0) × (x ≡ 0)))
           (sym (left-ended (ended (shape q) m) (length (m .stack)) e)) (word-exact (length (m .given)) (length (m .stack)));
@@ -318,19 +322,19 @@ module _ (q : Asked) (full : Sizes) where
       go false true [] = tt
       go false true (x ∷ l) = tt
 
-  good-rep : (n : Sizes) (slice : List Float) (m : Search (shape q)) → Ok q m → GoodAnswer q m (reportRule q full n slice m)
-  good-rep n slice m k =
-      go (ended (shape q) m) (suffices q full n && leb (pairsOf q * suc (q .quota) * 10) (length slice))
-      (λ (t : T (ended (shape q) m)). good-report q m slice k t)
+  good-rep : (n : Sizes) (out : Output) (m : Search (shape q)) → Ok q m → GoodAnswer q m (reportRule q full n out m)
+  good-rep n out m k =
+      go (ended (shape q) m) (suffices q full n && outRoom (recordsFor q) out)
+      (λ (t : T (ended (shape q) m)). good-report q m out k t)
     where
       go : (a b : Bool)
           → (T a
           → GoodReport q m (wordFor (length (m .given)) (length (m .stack))) (tally q m) (length (merged merging (rawList q m)))
-          (reportSlice (length (m .given) + length (m .stack)) (merged merging (rawList q m)) slice))
+          (written (q .terms) (length (m .given) + length (m .stack)) (merged merging (rawList q m)) out))
           → GoodAnswer q m (cond a (cond b
           (reported (Told (wordFor (length (m .given)) (length (m .stack))) (tally q m) (length (merged merging (rawList q m))))
-          (reportSlice (length (m .given) + length (m .stack)) (merged merging (rawList q m)) slice))
-          (reported ReportNoRoom slice)) (reported Running slice))
+          (written (q .terms) (length (m .given) + length (m .stack)) (merged merging (rawList q m)) out))
+          (reported ReportNoRoom out)) (reported Running out))
       go false b f = tt
       go true false f = tt
       go true true f = f tt
@@ -356,7 +360,7 @@ module _ (q : Asked) (full : Sizes) where
   stay-call : (c : Call) (m : Search (shape q)) → T (ended (shape q) m) → callRule q full c m .search ≡ m
   stay-call (step v n) m t = stay-step v n m t
   stay-call (own n) m t = stay-own n m t
-  stay-call (report n slice) m t = refl
+  stay-call (report n out) m t = refl
 
   pub stay-all : (cs : List Call) (m : Search (shape q)) → T (ended (shape q) m) → ruleAll q full cs m .search ≡ m
   stay-all [] m t = refl
@@ -377,7 +381,7 @@ module _ (q : Asked) (full : Sizes) where
   good-call : (c : Call) (m : Search (shape q)) → Ok q m → GoodAnswer q (callRule q full c m .search) (callRule q full c m .answer)
   good-call (step v n) m k = good-step v n m (stepRule q full v n m .search)
   good-call (own n) m k = good-own n m (heard q (ownRule q full n m) m)
-  good-call (report n slice) m k = good-rep n slice m k
+  good-call (report n out) m k = good-rep n out m k
 
   good-all : (cs : List Call) (m : Search (shape q)) → Ok q m → All (GoodAnswer q (ruleAll q full cs m .search)) (ruleAll q full cs m .answers)
   good-all [] m k = tt
@@ -390,8 +394,8 @@ module _ (q : Asked) (full : Sizes) where
 pub ok-start : (q : Asked) → Fine q → Ok q (start q)
 unfolding halving
 ok-start q O = record {
-  covered = λ s t a b. cover-fresh (shape q) s t (pieces1 q) (pieces2 q) (q .quota * pairsOf q) (O .covers1 s a) (O .covers2 t b);
-  sound = sound-fresh (shape q) (halving q) (pieces1 q) (pieces2 q) (q .quota * pairsOf q)
+  covered = λ s t a b. cover-fresh (shape q) s t (pieces1 q) (pieces2 q) (allowanceFor q) (O .covers1 s a) (O .covers2 t b);
+  sound = sound-fresh (shape q) (halving q) (pieces1 q) (pieces2 q) (allowanceFor q)
       (all-pieces SoundPiece (q .width1) (q .lo1) (q .cuts1) (λ lo hi l x y e. (x, y)) (O .fine1))
       (all-pieces SoundPiece (q .width2) (q .lo2) (q .cuts2) (λ lo hi l x y e. (x, y)) (O .fine2));
   soundGiven = tt;
@@ -413,7 +417,7 @@ fresh-claim q u O room cs =
         covered = k .covered;
         balance = subst (λ (x : State). x .pairs + x .splits ≡ x .settled + x .given + x .waiting) (sym (z .state)) (n .counts .balance);
         atMost = subst (λ (x : State). x .waiting ≤ x .pairs + 64) (sym (z .state)) (at-most (shape q) (pairsOf q) (m .stack) (n .counts .steep));
-        allowance = subst (λ (x : State). x .splits + x .unspent ≡ x .quota * x .pairs) (sym (z .state)) (n .allowance);
+        allowance = subst (λ (x : State). x .splits + x .unspent ≡ allowanceOf x) (sym (z .state)) (n .allowance);
         visited = subst (λ (x : State). x .visits ≡ x .splits + x .settled + x .given + cond (x .stopped) 1 0) (sym (z .state)) (n .visited);
         state = z .state;
         nodes = z .inv .held .nodes;

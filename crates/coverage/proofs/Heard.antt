@@ -59,7 +59,7 @@ module _ (q : Asked) (full : Sizes) where
     kept-call : (c : Call) (m : Search (shape q)) → Any P (m .settled) → Any P (callRule q full c m .search .settled)
     kept-call (step v n) m h = kept-step (ended (shape q) m) (suffices q full n) v m h
     kept-call (own n) m h = kept-own (ownRule q full n m) m h
-    kept-call (report n slice) m h = h
+    kept-call (report n out) m h = h
 
     kept : (cs : List Call) (m : Search (shape q)) → Any P (m .settled) → Any P (ruleAll q full cs m .search .settled)
     kept [] m h = h
@@ -79,7 +79,7 @@ module _ (q : Asked) (full : Sizes) where
   idle-call : (c : Call) (m : Search (shape q)) → Refused (callRule q full c m .answer) → callRule q full c m .search ≡ m
   idle-call (step v n) m h = idle-step (ended (shape q) m) (suffices q full n) v m h
   idle-call (own n) m h = idle-own (ownRule q full n m) m h
-  idle-call (report n slice) m h = refl
+  idle-call (report n out) m h = refl
 
   idle : (cs : List Call) (m : Search (shape q)) → All Refused (ruleAll q full cs m .answers) → ruleAll q full cs m .search ≡ m
   idle [] m h = refl

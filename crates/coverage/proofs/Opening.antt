@@ -18,7 +18,7 @@ use Rattle.machine.specs.Machine.{Shape, Node, limit, depth, atPieces, row, pus
 use Rattle.machine.proofs.Cover.{count-fresh}
 use Rattle.floats.specs.Sizes.{Within}
 use Rattle.states.specs.States.{Memory, sizes, needed, enough}
-use Rattle.opening.specs.Asked.{Asked, shape, pieces1, pieces2, pushedPairs, pairsOf, start, stateOf, netOf1, netOf2, rangesOf, depthOf, openMemory}
+use Rattle.opening.specs.Asked.{Asked, shape, pieces1, pieces2, pushedPairs, pairsOf, start, stateOf, netOf1, netOf2, rangesOf, depthOf, openMemory, allowanceFor}
 use Rattle.coverage.specs.Claim.{bound, FineLine, Stored, AllStored, Fine}
 use Rattle.coverage.proofs.Refine.{room-of, fits-in}
 use Rattle.coverage.proofs.Chain.{Inv}
@@ -102,7 +102,7 @@ open-inv q u O room =
     let lr : All (λ (n : Node (shape q)). length (rangesOf q n) ≡ 4) N = all-same (λ (n : Node (shape q)). length (rangesOf q n) ≡ 4) (λ n. refl) N in
     let ld : All (λ (n : Node (shape q)). length (depthOf q n) ≡ 1) N = all-same (λ (n : Node (shape q)). length (depthOf q n) ≡ 1) (λ n. refl) N in
     record {
-      numbers = record { counts = count-fresh (shape q) (pieces1 q) (pieces2 q) (q .quota * pairsOf q); allowance = omega arith; visited = omega arith };
+      numbers = record { counts = count-fresh (shape q) (pieces1 q) (pieces2 q) (allowanceFor q); allowance = omega arith; visited = omega arith };
       held = record {
         nodes = rev-stored q (openMemory q u) N [] (up-of q (openMemory q u) 0 N
             (blk (4 * q .width1) (netOf1 q) 0 [] N (drop (0 + length (joined (map (netOf1 q) N))) (u .nets1)) (sym (native.Mathlib.Nat.zero-mul (4 * q .width1))) la)

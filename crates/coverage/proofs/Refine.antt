@@ -24,12 +24,12 @@ use Rattle.facts.proofs.Reflect.{as-true}
 use Rattle.states.proofs.Tests.{RoomAll, room-all}
 use Rattle.search.specs.declared.Stepped.the-variants.{Next, Ended, NoRoom}
 use Rattle.nodes.specs.Geometry.{regionOf}
-use Rattle.states.specs.States.{Memory, memory, Sizes, sizes, needed, enough, enoughOwn, topDepth, isZero, topFits, isSearch, over, countsOf, depthAt}
+use Rattle.states.specs.States.{Memory, memory, Sizes, sizes, needed, enough, enoughOwn, topDepth, isZero, topFits, isSearch, over, countsOf, depthAt, allowanceOf}
 use Rattle.search.specs.Steps.{part1, part2}
 use Rattle.nodes.specs.Moves.{givenState}
 use Rattle.search.specs.Steps.{Stepping, stepping, halves, splitMemory, giveUpAt, divideAt, actOn, stepDef}
 use Rattle.coverage.specs.Calls.{stepped, Outcome, lend, giveBack, stepOutcome}
-use Rattle.opening.specs.Asked.{Asked, shape, pairsOf, start, stateOf, tally, depthOf}
+use Rattle.opening.specs.Asked.{Asked, shape, pairsOf, start, stateOf, tally, depthOf, allowanceFor, recordsFor}
 use Rattle.coverage.specs.Rules.{Ruled, lent}
 use Rattle.coverage.specs.Claim.{Stored, AllStored}
 
@@ -145,7 +145,7 @@ back-sizes n w u e = λ i. record {
 -- ---- the numbers of a search, and what the memory holds of it
 pub record Numbers (q : Asked) (m : Search (shape q)) : Type 0 where
   pub counts : Balance (shape q) (pairsOf q) m
-  pub allowance : m .splits + m .unspent ≡ q .quota * pairsOf q
+  pub allowance : m .splits + m .unspent ≡ allowanceFor q
   pub visited : m .visits ≡ m .splits + length (m .settled) + length (m .given) + cond (m .stopped) 1 0
 
 pub record Held (q : Asked) (m : Search (shape q)) (u : Memory) : Type 0 where
@@ -379,11 +379,11 @@ module _ (q : Asked) (low : (w : ℕ) (l : List Float) → length l ≡ 4 * w �
     (upp : (w : ℕ) (l : List Float) → length l ≡ 4 * w → length (q .geometry .upperNet l) ≡ 4 * w) where
   module _ (n : Node (shape q)) (r : List (Node (shape q))) (se : List (Settling (shape q))) (gi : List (Node (shape q))) (vi sp un : ℕ) (to : Bool) (w : Memory)
       (N : Numbers q (search q (n ∷ r) se gi vi sp un false to)) (R : Room q (sizes w)) (H : Held q (search q (n ∷ r) se gi vi sp un false to) w) where
-    given-fits : suc (length gi) ≤ pairsOf q * suc (q .quota)
+    given-fits : suc (length gi) ≤ recordsFor q
     given-fits = let b = N .counts .balance in let a = N .allowance in omega arith
 
     raw-fits : suc (length gi) * 10 ≤ length (w .raw)
-    raw-fits = fits-in (suc (length gi)) (pairsOf q * suc (q .quota)) 10 (length (w .raw)) given-fits (R .raw)
+    raw-fits = fits-in (suc (length gi)) (recordsFor q) 10 (length (w .raw)) given-fits (R .raw)
 
     give-sim : StepSim q (stepOutcome (stateOf q (search q (n ∷ r) se gi vi sp un false to))
         (giveUpAt (q .geometry) (length r) (stateOf q (search q (n ∷ r) se gi vi sp un false to)) w (partOf (shape q) (n .a))
@@ -408,6 +408,7 @@ module _ (q : Asked) (low : (w : ℕ) (l : List Float) → length l ≡ 4 * w �
           width2 = q .width2;
           gap = q .gap;
           stopped = false;
+          terms = q .terms;
         } in
         moved
         (ap (λ (x : State). stepped (Next x)) st)
@@ -535,7 +536,7 @@ is-search q m w N z =
     let x = stateOf q m in
     let b1 = topFits (x .pairs) (x .waiting) (topDepth (x .waiting) (w .depths)) in
     let b2 = eqb (x .pairs + x .splits) (x .settled + x .given + x .waiting) in
-    let b3 = eqb (x .splits + x .unspent) (x .quota * x .pairs) in
+    let b3 = eqb (x .splits + x .unspent) (allowanceOf x) in
     let b4 = leb (x .visits) (x .splits + x .settled + x .given + 1) in
     and-i b1 (b2 && (b3 && b4)) (topFits-is q (m .stack) w (N .counts .steep) z)
     (and-i b2 (b3 && b4) (eq→eqb (N .counts .balance))

@@ -23,9 +23,13 @@ use Rattle.states.specs.declared.Counts.{Counts}
 use Rattle.floats.specs.Stations.{InRange, Piece, Cut}
 use Rattle.regions.specs.Stations.{InRegion}
 use Rattle.nodes.specs.Geometry.{regionOf}
-use Rattle.states.specs.States.{Memory}
+use Rattle.states.specs.States.{Memory, allowanceOf}
 use Rattle.report.specs.declared.Reported.{Reported}
 use Rattle.report.specs.declared.Reported.the-variants.{Told, Running, NoRoom}
+use Rattle.report.specs.Reports.{Output}
+use Rattle.terms.specs.Terms.{seamOf1, seamOf2}
+use Rattle.machine.specs.Marks.{Marked}
+use Rattle.stretches.specs.Stretches.{nearAt}
 use Rattle.coverage.specs.Calls.{Answer, stepped, judged, reported, Ran}
 use Rattle.opening.specs.Asked.{Asked, shape, pieces1, pieces2, In1, In2, stateOf, tally, rawList, netOf1, netOf2, rangesOf, depthOf}
 
@@ -65,11 +69,11 @@ Accounted q m out s t =
     SetApart (shape q) (pieces1 q) (pieces2 q) s t ⊎
     (Any (λ (e : Settling (shape q)). InNode (shape q) s t (e .node)) (m .settled) ⊎ Any (InRegion s t) out)
 
--- the word w, the counts c, k regions, and the report slice afterwards
-pub record GoodReport (q : Asked) (m : Search (shape q)) (w : Word) (c : Counts) (k : ℕ) (slice : List Float) : Type 0 where
+-- the word w, the counts c, k regions, and the two slices afterwards
+pub record GoodReport (q : Asked) (m : Search (shape q)) (w : Word) (c : Counts) (k : ℕ) (o : Output) : Type 0 where
   -- the regions, as they stand in the slice
   pub out : List Region
-  pub read : take (k * 10) slice ≡ flats out
+  pub read : take (k * 10) (o .regions) ≡ flats out
   pub number : k ≡ length out
   -- the search has ended, and the counts are its
   pub finished : T (ended (shape q) m)
@@ -80,17 +84,19 @@ pub record GoodReport (q : Asked) (m : Search (shape q)) (w : Word) (c : Counts)
   -- nothing is lost, no two regions touch, and "complete" comes exactly when given up and left are 0
   pub accounted : (s t : Float) → In1 q s → In2 q t → Accounted q m out s t
   pub disjoint : Pairwise (Off merging) out
+  -- equal marks exactly where a chain of neighbours joins two regions, each the lowest list index of its group
+  pub marked : Marked k (nearAt (seamOf1 (q .terms)) (seamOf2 (q .terms)) out) (take k (o .marks))
   pub exact : (w ≡ Complete) ↔ ((c .given ≡ 0) × (c .left ≡ 0))
 
-abbrev pub GoodReported : (q : Asked) → Search (shape q) → Reported → List Float → Type 0
-GoodReported q m (Told w c k) slice = GoodReport q m w c k slice
-GoodReported q m Running slice = Unit {0}
-GoodReported q m NoRoom slice = Unit {0}
+abbrev pub GoodReported : (q : Asked) → Search (shape q) → Reported → Output → Type 0
+GoodReported q m (Told w c k) o = GoodReport q m w c k o
+GoodReported q m Running o = Unit {0}
+GoodReported q m NoRoom o = Unit {0}
 
 abbrev pub GoodAnswer : (q : Asked) → Search (shape q) → Answer → Type 0
 GoodAnswer q m (stepped a) = Unit {0}
 GoodAnswer q m (judged a) = Unit {0}
-GoodAnswer q m (reported a slice) = GoodReported q m a slice
+GoodAnswer q m (reported a o) = GoodReported q m a o
 
 -- ---- after the list: m is the search that the rules make, r what the calls left
 pub record After (q : Asked) (m : Search (shape q)) (r : Ran) : Type 0 where
@@ -100,7 +106,7 @@ pub record After (q : Asked) (m : Search (shape q)) (r : Ran) : Type 0 where
   pub balance : r .state .pairs + r .state .splits ≡ r .state .settled + r .state .given + r .state .waiting
   pub atMost : r .state .waiting ≤ r .state .pairs + 64
   -- each split spends one of S × P, and nothing else does; each visit splits, settles or gives up a node, but the one that ends the search at no allowance
-  pub allowance : r .state .splits + r .state .unspent ≡ r .state .quota * r .state .pairs
+  pub allowance : r .state .splits + r .state .unspent ≡ allowanceOf (r .state)
   pub visited : r .state .visits ≡ r .state .splits + r .state .settled + r .state .given + cond (r .state .stopped) 1 0
   -- the state's counts are the search's, the memory holds its nodes, the raw slice its given-up regions
   pub state : r .state ≡ stateOf q m

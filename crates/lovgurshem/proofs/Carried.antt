@@ -13,6 +13,7 @@ use Rattle.verdicts.specs.declared.Verdict.the-variants.{Settled, Split, Unsepa
 use Rattle.lines.specs.Lines.{Question}
 use Rattle.lines.specs.Admit.{admitOf}
 use Rattle.questions.specs.Questions.{askOf}
+use Rattle.terms.specs.declared.Terms.{Terms}
 use Rattle.states.specs.declared.State.{State}
 use Rattle.states.specs.States.{Memory, sizes, needed, enough, depthAt, isSearch, over}
 use Rattle.nodes.specs.Geometry.{Geometry}
@@ -31,14 +32,14 @@ use Rattle.words.proofs.Laws.{within, reads-back, reads-moved}
 use Rattle.words.specs.Words.{isState, stateOf, verdictOf}
 use Rattle.lovgurshem.specs.Answers.{openedWords, steppedWords}
 use Rattle.lovgurshem.specs.Calls.{callOpen, callStep, callRun}
-use Rattle.lovgurshem.specs.Carried.{OpenCarried, StepCarried, RunCarried}
+use Rattle.lovgurshem.specs.Carried.{Doubles, OpenCarried, StepCarried, RunCarried}
 
--- ---- what no step changes: P, S, the widths and the gap
+-- ---- what no step changes: P, S, the widths, the gap, the whole turns and the asked ends
 abbrev Fixed : Type 0
-Fixed = ℕ × ℕ × ℕ × ℕ × Float
+Fixed = ℕ × ℕ × ℕ × ℕ × Float × Terms
 
 abbrev fixed : State → Fixed
-fixed x = (x .pairs, x .quota, x .width1, x .width2, x .gap)
+fixed x = (x .pairs, x .quota, x .width1, x .width2, x .gap, x .terms)
 
 abbrev fixedIn : Stepped → Fixed → Fixed
 fixedIn (Next x) g = fixed x
@@ -86,28 +87,34 @@ module _ (G : Geometry) where
       go true f = refl
       go false f = turned-fixed n f x (fixed x) (ownStepDef G x u .answer) (ownStepDef G x u .memory) (carried-fixed x u (ownDef G x u))
 
--- ---- an opening's gap is the question's
-abbrev gapOpen : Opened → Float → Float
-gapOpen (Open x) g = x .gap
-gapOpen (BadLine line a) g = g
-gapOpen (BadQuestion a) g = g
-gapOpen NoOpenRoom g = g
+-- ---- an opening's gap and ends are the question's
+abbrev Floats : Type 0
+Floats = Float × Float × Float × Float × Float
 
-open-gap : (q : Question) (p1 p2 : List Float) (u : Memory) → gapOpen (openDef q p1 p2 u .answer) (q .gap) ≡ q .gap
-open-gap q p1 p2 u =
+abbrev floatsOf : Question → Floats
+floatsOf q = (q .gap, q .lo1, q .hi1, q .lo2, q .hi2)
+
+abbrev floatsIn : Opened → Floats → Floats
+floatsIn (Open x) g = (x .gap, x .terms .lo1, x .terms .hi1, x .terms .lo2, x .terms .hi2)
+floatsIn (BadLine line a) g = g
+floatsIn (BadQuestion a) g = g
+floatsIn NoOpenRoom g = g
+
+open-floats : (q : Question) (p1 p2 : List Float) (u : Memory) → floatsIn (openDef q p1 p2 u .answer) (floatsOf q) ≡ floatsOf q
+open-floats q p1 p2 u =
     go (isAdmitted (admitOf (q .line1))) (isAdmitted (admitOf (q .line2))) (isFine (askOf q)) (piecesFit q p1 p2)
     (pushed (enough (needed (searchState (searchFor q) (start (searchFor q)))) (sizes u)) _)
   where
     pushed : (b : Bool) (m : Memory)
-        → gapOpen (cond {A = Pushing} b (pushing (Open (searchState (searchFor q) (start (searchFor q)))) m) (pushing NoOpenRoom u) .answer) (q .gap)
-        ≡ q .gap
+        → floatsIn (cond {A = Pushing} b (pushing (Open (searchState (searchFor q) (start (searchFor q)))) m) (pushing NoOpenRoom u) .answer) (floatsOf q)
+        ≡ floatsOf q
     pushed true m = refl
     pushed false m = refl
 
-    go : (a b c d : Bool) → gapOpen (openPieces q p1 p2 u .answer) (q .gap) ≡ q .gap
-        → gapOpen (cond {A = Opening} a (cond b
+    go : (a b c d : Bool) → floatsIn (openPieces q p1 p2 u .answer) (floatsOf q) ≡ floatsOf q
+        → floatsIn (cond {A = Opening} a (cond b
         (cond c (cond d (openPieces q p1 p2 u) (opening NoOpenRoom p1 p2 u)) (opening (BadQuestion (askOf q)) p1 p2 u))
-        (opening (BadLine 2 (admitOf (q .line2))) p1 p2 u)) (opening (BadLine 1 (admitOf (q .line1))) p1 p2 u) .answer) (q .gap) ≡ q .gap
+        (opening (BadLine 2 (admitOf (q .line2))) p1 p2 u)) (opening (BadLine 1 (admitOf (q .line1))) p1 p2 u) .answer) (floatsOf q) ≡ floatsOf q
     go true true true true o = o
     go true true true false o = refl
     go true true false d o = refl
@@ -121,16 +128,17 @@ next-read ws a y t f e =
     let g : fixed (stateOf ws) ≡ fixed y = sym f ∙ ap (λ (b : Stepped). fixedIn b (fixed (stateOf ws))) e in
     (λ i. stateOf (steppedWords ws (e i)))
     ∙ reads-moved ws y (within ws t .long) (ap (λ (k : Fixed). k .0) g) (ap (λ (k : Fixed). k .1) g) (ap (λ (k : Fixed). k .2) g)
-    (ap (λ (k : Fixed). k .3) g) (ap (λ (k : Fixed). k .4) g)
+    (ap (λ (k : Fixed). k .3) g) (ap (λ (k : Fixed). k .4) g) (ap (λ (k : Fixed). k .5) g)
 
-open-read : (ws : List ℕ) (gap : Float) (a : Opened) (x : State) → T (fits binary64 gap) → gapOpen a gap ≡ gap → a ≡ Open x → stateOf (openedWords ws a) ≡ x
-open-read ws gap a x d f e =
-    let g : x .gap ≡ gap = ap (λ (b : Opened). gapOpen b gap) (sym e) ∙ f in
-    (λ i. stateOf (openedWords ws (e i))) ∙ reads-back ws x (subst (λ (h : Float). T (fits binary64 h)) (sym g) d)
+open-read : (ws : List ℕ) (q : Question) (a : Opened) (x : State) → Doubles q → floatsIn a (floatsOf q) ≡ floatsOf q → a ≡ Open x → stateOf (openedWords ws a) ≡ x
+open-read ws q a x d f e =
+    let g : floatsOf q ≡ floatsIn (Open x) (floatsOf q) = sym f ∙ ap (λ (b : Opened). floatsIn b (floatsOf q)) e in
+    let k = subst (λ (h : Floats). T (fits binary64 (h .0)) × T (fits binary64 (h .1)) × T (fits binary64 (h .2)) × T (fits binary64 (h .3)) × T (fits binary64 (h .4))) g d in
+    (λ i. stateOf (openedWords ws (e i))) ∙ reads-back ws x (k .0) (k .1) (k .2) (k .3) (k .4)
 
 pub open-carried : OpenCarried
 unfolding callOpen
-open-carried q p1 p2 u ws x d h e = rw (le-leb _ _ h) (open-read ws (q .gap) (openDef q p1 p2 u .answer) x d (open-gap q p1 p2 u) e)
+open-carried q p1 p2 u ws x d h e = rw (le-leb _ _ h) (open-read ws q (openDef q p1 p2 u .answer) x d (open-floats q p1 p2 u) e)
 
 pub step-carried : StepCarried
 unfolding callStep

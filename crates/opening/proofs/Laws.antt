@@ -27,22 +27,23 @@ use Rattle.lines.specs.Lines.{Question, Line}
 use Rattle.pairs.specs.Nodes.{HasPieces}
 use Rattle.pairs.specs.Pairs.{Pieces, pieces, pairsFrom, nets1Of, nets2Of, rangesOf, depthsOf}
 use Rattle.states.specs.declared.State.{State}
+use Rattle.terms.specs.declared.Terms.{Terms}
 use Rattle.states.specs.States.{Memory, memory, Sizes, sizes, needed, enough, firstState}
 use Rattle.states.proofs.Tests.{room-all}
 use Rattle.opening.specs.declared.Opened.{Opened}
 use Rattle.opening.specs.declared.Opened.the-variants.{Open, BadLine, BadQuestion, NoRoom}
 use Rattle.opening.specs.Asked.{pushedPairs, start, stateOf}
-use Rattle.opening.specs.Opens.{searchFor, isAdmitted, isFine, piecesFit, piecesIn, pushing, pushDef, pushPairs, Opening, opening, openPieces, openDef}
+use Rattle.opening.specs.Opens.{termsOf, searchFor, isAdmitted, isFine, piecesFit, piecesIn, pushing, pushDef, pushPairs, Opening, opening, openPieces, openDef}
 use Rattle.opening.proofs.Pushed.{one, other, numbered, pairs-are, memory-is}
 
 -- so many pairs as pieces allow
 pub few-pairs : (r n m : ℕ) → n ≤ 255 → m ≤ 255 → r ≤ n * m → r ≤ 65025
 few-pairs r n m h k l = let w = mul-le-mul h k in omega arith
 
-pub push-room : (x : State) (n S w1 w2 : ℕ) (gap : Float) (s : Sizes) → x ≡ firstState n S w1 w2 gap → enough (needed x) s ≡ true
+pub push-room : (x : State) (n S w1 w2 : ℕ) (gap : Float) (t : Terms) (s : Sizes) → x ≡ firstState n S w1 w2 gap t → enough (needed x) s ≡ true
     → (n * (4 * w1) ≤ s .nets1) × (n * (4 * w2) ≤ s .nets2) × (n * 4 ≤ s .ranges) × (n ≤ s .depths)
-push-room x n S w1 w2 gap s e f =
-    let R = room-all (firstState n S w1 w2 gap) s (subst (λ (y : State). enough (needed y) s ≡ true) e f) in
+push-room x n S w1 w2 gap t s e f =
+    let R = room-all (firstState n S w1 w2 gap t) s (subst (λ (y : State). enough (needed y) s ≡ true) e f) in
     let more : n ≤ n + 64 = omega arith in (
       le-trans (mul-le-mul-right (4 * w1) more) (R .nets1),
       le-trans (mul-le-mul-right (4 * w2) more) (R .nets2),
@@ -50,25 +51,25 @@ push-room x n S w1 w2 gap s e f =
       (let z = R .depths in omega arith),
     )
 
-module _ (S : ℕ) (gap : Float) (p q : Pieces) (n1 n2 : ℕ) (u : Memory) (x : State) (n : ℕ) (en : n ≡ length (pairsFrom gap p q n2 n1 0))
-    (ex : x ≡ firstState n S (p .w) (q .w) gap) where
-  state-is : x ≡ firstState (length (pairsFrom gap p q n2 n1 0)) S (p .w) (q .w) gap
-  state-is = ex ∙ ap (λ (k : ℕ). firstState k S (p .w) (q .w) gap) en
+module _ (S : ℕ) (gap : Float) (t : Terms) (p q : Pieces) (n1 n2 : ℕ) (u : Memory) (x : State) (n : ℕ) (en : n ≡ length (pairsFrom gap p q n2 n1 0))
+    (ex : x ≡ firstState n S (p .w) (q .w) gap t) where
+  state-is : x ≡ firstState (length (pairsFrom gap p q n2 n1 0)) S (p .w) (q .w) gap t
+  state-is = ex ∙ ap (λ (k : ℕ). firstState k S (p .w) (q .w) gap t) en
 
-  pub push-short : enough (needed x) (sizes u) ≡ false → pushing NoRoom u ≡ pushPairs S gap p q n1 n2 u
+  pub push-short : enough (needed x) (sizes u) ≡ false → pushing NoRoom u ≡ pushPairs S gap t p q n1 n2 u
   push-short e = rw (subst (λ (y : State). enough (needed y) (sizes u) ≡ false) state-is e) refl
 
   pub push-done : enough (needed x) (sizes u) ≡ true → (a b r : List Float) (d : List ℕ)
       → a ≡ patch (u .nets1) 0 (nets1Of p (pairsFrom gap p q n2 n1 0)) → b ≡ patch (u .nets2) 0 (nets2Of q (pairsFrom gap p q n2 n1 0))
       → r ≡ patch (u .ranges) 0 (rangesOf p q (pairsFrom gap p q n2 n1 0)) → d ≡ patch (u .depths) 0 (depthsOf (pairsFrom gap p q n2 n1 0))
-      → pushing (Open x) (memory a b r d (u .raw)) ≡ pushPairs S gap p q n1 n2 u
+      → pushing (Open x) (memory a b r d (u .raw)) ≡ pushPairs S gap t p q n1 n2 u
   push-done e a b r d ea eb er ed =
       rw (subst (λ (y : State). enough (needed y) (sizes u) ≡ true) state-is e)
       (λ i. pushing (Open (state-is i)) (memory (ea i) (eb i) (er i) (ed i) (u .raw)))
 
 -- ---- pushed by the numbers of the pieces, or as the machine has it
 module _ (q : Question) (p1 p2 : List Float) (u : Memory) where
-  fresh-state : firstState (length (numbered q p1 p2)) (q .splits) (q .line1 .degree + 1) (q .line2 .degree + 1) (q .gap) ≡ stateOf (searchFor q) (start (searchFor q))
+  fresh-state : firstState (length (numbered q p1 p2)) (q .splits) (q .line1 .degree + 1) (q .line2 .degree + 1) (q .gap) (termsOf q) ≡ stateOf (searchFor q) (start (searchFor q))
   fresh-state =
       let e = sym (pairs-are q p1 p2) in
       let w = e ∙ sym (length-reverse (pushedPairs (searchFor q))) in
@@ -85,9 +86,10 @@ module _ (q : Question) (p1 p2 : List Float) (u : Memory) where
         width2 = q .line2 .degree + 1;
         gap = q .gap;
         stopped = false;
+        terms = termsOf q;
       }
 
-  pub push-is : pushPairs (q .splits) (q .gap) (one q p1 p2) (other q p1 p2) (pieceCount (q .line1) (q .lo1) (q .hi1))
+  pub push-is : pushPairs (q .splits) (q .gap) (termsOf q) (one q p1 p2) (other q p1 p2) (pieceCount (q .line1) (q .lo1) (q .hi1))
       (pieceCount (q .line2) (q .lo2) (q .hi2)) u ≡ pushDef (searchFor q) u
   push-is =
       let m = memory-is q p1 p2 u _ _ _ _ refl refl refl refl in
@@ -96,13 +98,13 @@ module _ (q : Question) (p1 p2 : List Float) (u : Memory) where
   -- the pieces written, then the pairs pushed
   pub pieces-opened : (r : Opened) (a b : List Float) (m : Memory) → a ≡ piecesIn (q .line1) (q .lo1) (q .hi1) p1 → b ≡ piecesIn (q .line2) (q .lo2) (q .hi2) p2
       → pushing r m
-      ≡ pushPairs (q .splits) (q .gap) (pieces (q .line1 .degree + 1) a (breaksOf (q .line1) (q .lo1) (q .hi1)))
+      ≡ pushPairs (q .splits) (q .gap) (termsOf q) (pieces (q .line1 .degree + 1) a (breaksOf (q .line1) (q .lo1) (q .hi1)))
       (pieces (q .line2 .degree + 1) b (breaksOf (q .line2) (q .lo2) (q .hi2)))
       (pieceCount (q .line1) (q .lo1) (q .hi1)) (pieceCount (q .line2) (q .lo2) (q .hi2)) u
       → opening r a b m ≡ openPieces q p1 p2 u
   pieces-opened r a b m ea eb e =
       let f = e
-      ∙ (λ i. pushPairs (q .splits) (q .gap) (pieces (q .line1 .degree + 1) (ea i) (breaksOf (q .line1) (q .lo1) (q .hi1)))
+      ∙ (λ i. pushPairs (q .splits) (q .gap) (termsOf q) (pieces (q .line1 .degree + 1) (ea i) (breaksOf (q .line1) (q .lo1) (q .hi1)))
       (pieces (q .line2 .degree + 1) (eb i) (breaksOf (q .line2) (q .lo2) (q .hi2)))
       (pieceCount (q .line1) (q .lo1) (q .hi1)) (pieceCount (q .line2) (q .lo2) (q .hi2)) u) ∙ push-is in
       λ i. opening (f i .answer) (ea i) (eb i) (f i .memory)

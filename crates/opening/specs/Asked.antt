@@ -1,7 +1,7 @@
 -- What was asked, and the search that it starts: the pieces of both lines, the pushed pairs, and where the memory keeps each node. Definitions only.
 use mathlib.Core.List.{List, [], _∷_, _++_, map, reverse}
 use mathlib.Core.Bool.{cond}
-use Prim.Native.Nat.{ℕ, _*_}
+use Prim.Native.Nat.{ℕ, _+_, _*_}
 use lib.ListN.{length}
 use lib.Ieee.{Float}
 use Rattle.lists.specs.Parts.{patch, joined}
@@ -9,11 +9,12 @@ use Rattle.machine.specs.Machine.{Shape, Node, Search, partOf, depth, pushed, f
 use Rattle.regions.specs.declared.Region.{Region}
 use Rattle.states.specs.declared.State.{State}
 use Rattle.states.specs.declared.Counts.{Counts}
+use Rattle.terms.specs.declared.Terms.{Terms}
 use Rattle.floats.specs.Stations.{InRange, Piece, Cut, piecesFrom}
 use Rattle.nodes.specs.Geometry.{Geometry, floats, regionOf}
 use Rattle.states.specs.States.{Memory}
 
--- for each line the asked range and its pieces; the gap, the splits per pair, and the widths of the nets
+-- for each line the asked range and its pieces; the gap, the splits per pair, the widths of the nets, and what the report reads
 pub record Asked : Type 0 where
   pub geometry : Geometry
   pub lo1 : Float
@@ -26,6 +27,7 @@ pub record Asked : Type 0 where
   pub quota : ℕ
   pub width1 : ℕ
   pub width2 : ℕ
+  pub terms : Terms
 
 abbrev pub shape : Asked → Shape
 shape q = floats (q .geometry) (q .gap)
@@ -49,9 +51,16 @@ pushedPairs q = pushed (shape q) (pieces1 q) (pieces2 q)
 abbrev pub pairsOf : Asked → ℕ
 pairsOf q = length (pushedPairs q)
 
--- the fresh search, with an allowance of S × P
+-- the allowance, S × P, and how many regions there can be
+abbrev pub allowanceFor : Asked → ℕ
+allowanceFor q = q .quota * pairsOf q
+
+abbrev pub recordsFor : Asked → ℕ
+recordsFor q = pairsOf q + allowanceFor q
+
+-- the fresh search, with this allowance
 abbrev pub start : (q : Asked) → Search (shape q)
-start q = fresh (shape q) (pieces1 q) (pieces2 q) (q .quota * pairsOf q)
+start q = fresh (shape q) (pieces1 q) (pieces2 q) (allowanceFor q)
 
 -- ---- the numbers of a search, as a state and as counts
 abbrev pub stateOf : (q : Asked) → Search (shape q) → State
@@ -68,6 +77,7 @@ stateOf q m = record {
   width2 = q .width2;
   gap = q .gap;
   stopped = m .stopped;
+  terms = q .terms;
 }
 
 -- left: the nodes waiting at the end

@@ -9,13 +9,17 @@ use lib.ListN.{length, getD, take, drop, length-append, take-append-drop}
 use lib.Seq.{take-length, length-take-le, take-suc}
 use lib.Ieee.{Float, nan}
 use Rattle.lists.specs.Parts.{patch, block}
-use Rattle.lists.proofs.Parts.{patch-twice, part-is, part-length}
+use Rattle.lists.proofs.Parts.{patch-twice, part-is}
 use Rattle.texts.specs.Texts.{Wrote, decimalOf, floatText}
 use Rattle.texts.proofs.Laws.{decimal-fits, float-length}
 use Rattle.regions.specs.declared.Word.{Word}
 use Rattle.regions.specs.declared.Word.the-variants.{Complete, Budget, Unseparated}
 use Rattle.states.specs.declared.Counts.{Counts}
-use Rattle.printing.specs.Printed.{pairsName, visitsName, splitsName, settledName, givenName, leftName, regionsName, refusedText, space, newline, wordText, counted, stepsText, nodesText, countLine, refusalLine, floatTexts, regionLine, regionLines, regionText}
+use Rattle.printing.specs.Printed.{countsLength, regionLength, pairsName, visitsName, splitsName, settledName, givenName, leftName, regionsName, refusedText, space, newline, wordText, counted, stepsText, nodesText, countLine, refusalLine, floatTexts, regionLine, regionLines, regionText}
+
+-- the same text, said otherwise
+pub moved : (l : List ℕ) (at : ℕ) {xs ys : List ℕ} {l' : List ℕ} {r : ℕ} → xs ≡ ys → Wrote l at xs l' r → Wrote l at ys l' r
+moved l at e (a, b) = (a ∙ ap (λ (t : List ℕ). at + length t) e, b ∙ ap (patch l at) e)
 
 -- a text written behind another
 pub joined : (l : List ℕ) (at : ℕ) (xs ys : List ℕ) {l1 l2 : List ℕ} {r1 r2 : ℕ} → (r1 ≡ at + length xs) × (l1 ≡ patch l at xs)
@@ -40,11 +44,11 @@ word-length Complete = lit≤ tt
 word-length Budget = lit≤ tt
 word-length Unseparated = lit≤ tt
 
-pub word-is : (out : List ℕ) (w v : Word) {out' : List ℕ} {r : ℕ} → w ≡ v → (r ≡ 0 + length (wordText v)) × (out' ≡ patch out 0 (wordText v))
-    → ((r ≡ 0 + length (wordText w)) × (out' ≡ patch out 0 (wordText w))) × (r ≤ 11)
-word-is out w v {out'} {r} e (a, b) =
+pub word-is : (out : List ℕ) (w v : Word) {out' : List ℕ} {r : ℕ} → w ≡ v → Wrote out 0 (wordText v) out' r → Wrote out 0 (wordText w) out' r × (r ≤ 11)
+word-is out w v e h =
     let k = word-length v in
-    ((a ∙ ap (λ (z : Word). 0 + length (wordText z)) (sym e), b ∙ ap (λ (z : Word). patch out 0 (wordText z)) (sym e)), omega arith)
+    let a = h .0 in
+    (moved out 0 (ap wordText (sym e)) h, omega arith)
 
 -- ---- the counts
 -- a count, which has at most twenty digits
@@ -75,10 +79,10 @@ nodes-are out at c h a b d = (
   omega (arith, a .1, b .1, d .1),
 )
 
-pub counts-are : (out : List ℕ) (w : Word) (c : Counts) (n : ℕ) {o1 o2 o3 o4 o5 : List ℕ} {r1 r2 r3 r4 r5 : ℕ} → 206 ≤ length out
+pub counts-are : (out : List ℕ) (w : Word) (c : Counts) (n : ℕ) {o1 o2 o3 o4 o5 : List ℕ} {r1 r2 r3 r4 r5 : ℕ} → countsLength ≤ length out
     → Wrote out 0 (wordText w) o1 r1 × (r1 ≤ 11) → Wrote o1 r1 (stepsText c) o2 r2 × (r2 ≤ r1 + 83) → Wrote o2 r2 (nodesText c) o3 r3 × (r3 ≤ r2 + 82)
     → Counted o3 r3 regionsName n o4 r4 → Wrote o4 r4 newline o5 r5
-    → Wrote out 0 (countLine w c n) o5 r5 × (r5 ≤ 206)
+    → Wrote out 0 (countLine w c n) o5 r5 × (r5 ≤ countsLength)
 unfolding countLine
 counts-are out w c n h (a, a') (b, b') (d, d') (e, e') f =
     let k = f .0 in (
@@ -129,55 +133,37 @@ texts-done out₀ at xs i {out} {here} h h' e f =
     ((omega arith, f ∙ ap (λ (l : List Float). patch out₀ at (floatTexts l)) (ap (λ (k : ℕ). take k xs) z ∙ take-length xs)), omega arith)
 
 -- ---- regions
-pub region-is : (out : List ℕ) (at : ℕ) (region : List Float) {o1 o2 o3 : List ℕ} {r1 r2 r3 : ℕ} → length region ≡ 10 → at + 177 ≤ length out
-    → Wrote out at regionText o1 r1 → Wrote o1 r1 (floatTexts region) o2 r2 × (r2 ≡ r1 + 17 * length region) → Wrote o2 r2 newline o3 r3
-    → Wrote out at (regionLine region) o3 r3 × (r3 ≡ at + 177)
+pub region-is : (out : List ℕ) (at : ℕ) (region : List Float) (mark : ℕ) {o1 o2 o3 o4 : List ℕ} {r1 r2 r3 r4 : ℕ} → length region ≡ 10 → at + regionLength ≤ length out
+    → Wrote out at regionText o1 r1 → Wrote o1 r1 (floatTexts region) o2 r2 × (r2 ≡ r1 + 17 * length region) → Counted o2 r2 space mark o3 r3 → Wrote o3 r3 newline o4 r4
+    → Wrote out at (regionLine region mark) o4 r4 × (r4 ≤ at + regionLength)
 unfolding regionLine
-region-is out at region e h a (b, b') c =
+region-is out at region mark e h a (b, b') (d, d') f =
     let i = a .0 in
-    let k = c .0 in
-    (three out at regionText (floatTexts region) newline a b c (omega arith), omega arith)
+    let k = f .0 in (
+      three out at (regionText ++ floatTexts region) (counted space mark) newline (joined out at regionText (floatTexts region) a b (omega arith)) d f (omega arith),
+      omega arith,
+    )
 
-line-length : (region : List Float) → length region ≡ 10 → length (regionLine region) ≡ 177
-unfolding regionLine
-line-length region e =
-    let a = texts-length region in
-    let b = length-append (regionText ++ floatTexts region) newline in
-    let d = length-append regionText (floatTexts region) in
-    omega arith
-
-pub lines-length : (n : ℕ) (list : List Float) → n * 10 ≤ length list → length (regionLines n list) ≡ 177 * n
+pub regions-start : (out : List ℕ) (at : ℕ) (list : List Float) (marks : List ℕ) → Wrote out at (regionLines 0 list marks) out at
 unfolding regionLines
-lines-length zero list h = refl
-lines-length (suc n) list h =
-    let a = lines-length n list (omega arith) in
-    let b = line-length (block 10 n list) (part-length (n * 10) 10 list (omega arith)) in
-    length-append (regionLines n list) (regionLine (block 10 n list)) ∙ omega arith
+regions-start out at list marks = let z : at + 0 ≡ at = omega arith in (sym z, sym (rw z (take-append-drop at out)))
 
-pub regions-start : (out : List ℕ) (at : ℕ) (list : List Float) → out ≡ patch out at (regionLines 0 list)
+lines-next : (n : ℕ) (list : List Float) (marks : List ℕ) → regionLines (n + 1) list marks ≡ regionLines n list marks ++ regionLine (block 10 n list) (getD marks n 0)
 unfolding regionLines
-regions-start out at list = let z : at + 0 ≡ at = omega arith in sym (rw z (take-append-drop at out))
+lines-next n list marks = rw add-one refl
 
-lines-next : (n : ℕ) (list : List Float) → regionLines (n + 1) list ≡ regionLines n list ++ regionLine (block 10 n list)
-unfolding regionLines
-lines-next n list = rw add-one refl
+pub regions-turn : (out₀ : List ℕ) (at : ℕ) (list : List Float) (marks : List ℕ) (k n : ℕ) {out out' : List ℕ} {here here' : ℕ} → k < n → at + regionLength * n ≤ length out₀
+    → Wrote out₀ at (regionLines k list marks) out here → here ≤ at + regionLength * k
+    → Wrote out here (regionLine (take (k * 10 + 10 - k * 10) (drop (k * 10) list)) (getD marks k 0)) out' here' × (here' ≤ here + regionLength)
+    → Wrote out₀ at (regionLines (k + 1) list marks) out' here' × (here' ≤ at + regionLength * (k + 1))
+regions-turn out₀ at list marks k n {out} {out'} {here} {here'} h room e f (g, g') =
+    let line : List Float → List ℕ = λ (l : List Float). regionLine l (getD marks k 0) in
+    let w = moved out here (ap line (part-is (k * 10) 10 list)) g in
+    (moved out₀ at (sym (lines-next k list marks)) (joined out₀ at (regionLines k list marks) (line (block 10 k list)) e w (omega arith)), omega arith)
 
-pub regions-turn : (out₀ : List ℕ) (at : ℕ) (list : List Float) (k n : ℕ) {out out' : List ℕ} {here here' : ℕ} → k < n → n * 10 ≤ length list → at + 177 * n ≤ length out₀
-    → here ≡ at + 177 * k → out ≡ patch out₀ at (regionLines k list)
-    → Wrote out here (regionLine (take (k * 10 + 10 - k * 10) (drop (k * 10) list))) out' here' × (here' ≡ here + 177)
-    → (here' ≡ at + 177 * (k + 1)) × (out' ≡ patch out₀ at (regionLines (k + 1) list))
-regions-turn out₀ at list k n {out} {out'} {here} {here'} h few room e f (g, g') =
-    let a = lines-length k list (omega arith) in
-    let p = part-is (k * 10) 10 list in
-    let w : Wrote out here (regionLine (block 10 k list)) out' here' =
-    (g .0 ∙ ap (λ (l : List Float). here + length (regionLine l)) p, g .1 ∙ ap (λ (l : List Float). patch out here (regionLine l)) p) in
-    let j = joined out₀ at (regionLines k list) (regionLine (block 10 k list)) {l1 = out} {l2 = out'} {r1 = here} {r2 = here'} (omega arith, f) w (omega arith) in
-    (omega arith, j .1 ∙ ap (patch out₀ at) (sym (lines-next k list)))
-
-pub regions-done : (out₀ : List ℕ) (at : ℕ) (list : List Float) (k n : ℕ) {out : List ℕ} {here : ℕ} → n ≤ k → k ≤ n → n * 10 ≤ length list
-    → here ≡ at + 177 * k → out ≡ patch out₀ at (regionLines k list)
-    → Wrote out₀ at (regionLines n list) out here × (here ≡ at + 177 * n)
-regions-done out₀ at list k n h h' few e f =
+pub regions-done : (out₀ : List ℕ) (at : ℕ) (list : List Float) (marks : List ℕ) (k n : ℕ) {out : List ℕ} {here : ℕ} → n ≤ k → k ≤ n
+    → Wrote out₀ at (regionLines k list marks) out here → here ≤ at + regionLength * k
+    → Wrote out₀ at (regionLines n list marks) out here × (here ≤ at + regionLength * n)
+regions-done out₀ at list marks k n h h' e f =
     let z : k ≡ n = omega arith in
-    let a = lines-length n list few in
-    ((omega arith, f ∙ ap (λ (i : ℕ). patch out₀ at (regionLines i list)) z), omega arith)
+    (moved out₀ at (ap (λ (i : ℕ). regionLines i list marks) z) e, omega arith)

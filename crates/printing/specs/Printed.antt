@@ -1,6 +1,7 @@
 -- What is printed, byte by byte in ASCII: the line of counts, a region's line, a refusal's line. Definitions only.
 use Prim.Native.Nat.{ℕ, zero, suc}
 use mathlib.Core.List.{List, [], _∷_, _++_}
+use lib.ListN.{getD}
 use lib.Ieee.{Float}
 use Rattle.lists.specs.Parts.{block}
 use Rattle.texts.specs.Texts.{decimalOf, floatText}
@@ -65,6 +66,16 @@ space = 32 ∷ []
 abbrev pub newline : List ℕ
 newline = 10 ∷ []
 
+-- ---- how long a line can be, twenty digits for each number
+abbrev pub countsLength : ℕ
+countsLength = 206
+
+abbrev pub regionLength : ℕ
+regionLength = 198
+
+abbrev pub refusalLength : ℕ
+refusalLength = 50
+
 -- ---- lines
 
 -- a name and a number (`put_count`)
@@ -93,14 +104,14 @@ unfoldable pub floatTexts : List Float → List ℕ
 floatTexts [] = []
 floatTexts (x ∷ l) = floatText x ++ floatTexts l
 
--- "A region gives first lo, hi, second lo, hi, lowest x, y, z, highest x, y, z: bits in hexadecimal" (`put_region`)
-unfoldable pub regionLine : List Float → List ℕ
-regionLine r = regionText ++ floatTexts r ++ newline
+-- "A region gives first lo, hi, second lo, hi, lowest x, y, z, highest x, y, z: bits in hexadecimal"; "A region's printed line ends with its mark in decimal" (`put_region`)
+unfoldable pub regionLine : List Float → ℕ → List ℕ
+regionLine r mark = regionText ++ floatTexts r ++ counted space mark ++ newline
 
--- the lines of the first n regions of a list of ten floats each (`put_regions`)
-unfoldable pub regionLines : ℕ → List Float → List ℕ
-regionLines zero l = []
-regionLines (suc n) l = regionLines n l ++ regionLine (block 10 n l)
+-- the lines of the first n regions of a list of ten floats each, and of their marks (`put_regions`)
+unfoldable pub regionLines : ℕ → List Float → List ℕ → List ℕ
+regionLines zero l marks = []
+regionLines (suc n) l marks = regionLines n l marks ++ regionLine (block 10 n l) (getD marks n 0)
 
 -- "A refusal prints one line, parted by single spaces: "refused", the number, and 1 or 2 for a line's fault, range or breaks, else 0" (`put_refusal`)
 unfoldable pub refusalLine : ℕ → ℕ → List ℕ

@@ -3,7 +3,7 @@ ghost use mathlib.Core.Path.{_≡_};
 ghost use Prim.Native.Nat.{_+_, _*_, _≤_};
 ghost use lib.ListN.{length};
 ghost use Rattle.texts.specs.Texts.{Wrote};
-ghost use Rattle.printing.specs.Printed.{counted, wordText, stepsText, nodesText, countLine, floatTexts, regionLine, regionLines, refusalLine};
+ghost use Rattle.printing.specs.Printed.{countsLength, regionLength, refusalLength, counted, wordText, stepsText, nodesText, countLine, floatTexts, regionLine, regionLines, refusalLine};
 use regions::Word;
 use states::Counts;
 
@@ -53,9 +53,9 @@ fn put_nodes(out: &mut [u8], at: usize, c: Counts) -> usize
 
 // The line of counts.
 pub fn put_counts(out: &mut [u8], w: Word, c: Counts, regions: usize) -> usize
-    requires { ⌜ 206 ≤ length (now out) ⌝ }
+    requires { ⌜ countsLength ≤ length (now out) ⌝ }
     ensures { λ r. ⌜ Wrote (now (out .entry)) 0 (countLine w c regions) (now (out .exit)) r ⌝ }
-    ensures { λ r. ⌜ r ≤ 206 ⌝ }
+    ensures { λ r. ⌜ r ≤ countsLength ⌝ }
 {
     let word = put_word(out, w);
     let steps = put_steps(out, word, c);
@@ -78,36 +78,37 @@ fn put_floats(out: &mut [u8], at: usize, xs: &[f64]) -> usize
     here
 }
 
-// The line of a region.
-fn put_region(out: &mut [u8], at: usize, region: &[f64]) -> usize
-    requires { ⌜ (length (now region) ≡ 10) × (at + 177 ≤ length (now out)) ⌝ }
-    ensures { λ r. ⌜ Wrote (now (out .entry)) at (regionLine (now (region .entry))) (now (out .exit)) r ⌝ }
-    ensures { λ r. ⌜ r ≡ at + 177 ⌝ }
+// The line of a region and its mark.
+fn put_region(out: &mut [u8], at: usize, region: &[f64], mark: u32) -> usize
+    requires { ⌜ (length (now region) ≡ 10) × (at + regionLength ≤ length (now out)) ⌝ }
+    ensures { λ r. ⌜ Wrote (now (out .entry)) at (regionLine (now (region .entry)) mark) (now (out .exit)) r ⌝ }
+    ensures { λ r. ⌜ r ≤ at + regionLength ⌝ }
 {
     let floats = texts::put_bytes(out, at, b"region");
-    let end = put_floats(out, floats, region);
+    let place = put_floats(out, floats, region);
+    let end = put_count(out, place, b" ", mark as u64);
     texts::put_bytes(out, end, b"\n")
 }
 
 // The lines of the first `n` regions.
-pub fn put_regions(out: &mut [u8], at: usize, list: &[f64], n: usize) -> usize
-    requires { ⌜ (n * 10 ≤ length (now list)) × (at + 177 * n ≤ length (now out)) ⌝ }
-    ensures { λ r. ⌜ Wrote (now (out .entry)) at (regionLines n (now (list .entry))) (now (out .exit)) r ⌝ }
-    ensures { λ r. ⌜ r ≡ at + 177 * n ⌝ }
+pub fn put_regions(out: &mut [u8], at: usize, list: &[f64], marks: &[u32], n: usize) -> usize
+    requires { ⌜ (n * 10 ≤ length (now list)) × (n ≤ length (now marks)) × (at + regionLength * n ≤ length (now out)) ⌝ }
+    ensures { λ r. ⌜ Wrote (now (out .entry)) at (regionLines n (now (list .entry)) (now (marks .entry))) (now (out .exit)) r ⌝ }
+    ensures { λ r. ⌜ r ≤ at + regionLength * n ⌝ }
 {
     let mut here = at;
     let mut k = 0usize;
     while k < n {
         let from = k * 10;
         let to = from + 10;
-        here = put_region(out, here, &list[from..to]);
+        here = put_region(out, here, &list[from..to], marks[k]);
         k += 1;
     }
     here
 }
 
 pub fn put_refusal(out: &mut [u8], number: u8, line: u8) -> usize
-    requires { ⌜ 50 ≤ length (now out) ⌝ }
+    requires { ⌜ refusalLength ≤ length (now out) ⌝ }
     ensures { λ r. ⌜ Wrote (now (out .entry)) 0 (refusalLine number line) (now (out .exit)) r ⌝ }
 {
     let first = put_count(out, 0, b"refused ", number as u64);

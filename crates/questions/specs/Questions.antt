@@ -3,13 +3,13 @@ use Prim.Native.Nat.{ℕ}
 use mathlib.Core.Bool.{Bool, false, cond, not}
 use mathlib.Core.List.{List}
 use lib.Dec.{ltb}
-use lib.Ieee.{Float, binary64, sub, le, lt}
+use lib.Ieee.{Float, binary64, sub, le, lt, eq}
 use Rattle.lists.specs.Tests.{eachTwo}
 use Rattle.floats.specs.Floats.{zero64, within, middle}
 use Rattle.points.specs.declared.Interval.{Interval}
 use Rattle.lines.specs.Admit.{two24}
 use Rattle.lines.specs.Lines.{Question}
-use Rattle.knots.specs.Knots.{unrolledOf, breaksIn, boundsOf}
+use Rattle.knots.specs.Knots.{periodOf, unrolledOf, breaksIn, boundsOf}
 use Rattle.questions.specs.declared.Asked.{Asked}
 use Rattle.questions.specs.declared.Asked.the-variants.{Fine, RangeOutOfBounds, GapOutOfRange, TooManySplits, BreaksTooClose}
 
@@ -32,6 +32,10 @@ askedLine (BreaksTooClose line) = line
 -- "A range starts in [first knot, last knot) and is, as rounded, no longer than the period": what of this is not asked of an open line
 unfoldable pub turnFits : Interval → Float → Float → Bool
 turnFits bounds lo hi = cond (lt lo (bounds .hi)) (le (sub binary64 hi lo) (sub binary64 (bounds .hi) (bounds .lo))) false
+
+-- "On a closed line searched for a whole turn": "the line is closed, its asked hi − lo, as rounded, is the period" (document 02, M-101; `whole_turn`)
+unfoldable pub wholeTurn : Bool → List Float → Float → Float → Bool
+wholeTurn closed knots lo hi = cond closed (eq (sub binary64 hi lo) (periodOf knots)) false
 
 -- 15 isn't met: lo < hi, and an open line's range lies inside its bounds, a closed one's starts in them and is no longer than the period. The bounds are finite, and so is then the range: an infinite end has an infinite length,
 -- and a NaN is neither below nor above a number

@@ -4,7 +4,7 @@ ghost use Prim.Native.Nat.{_+_, _≤_};
 ghost use lib.ListN.{length};
 ghost use Rattle.lists.specs.Tests.{eachTwo, total};
 ghost use Rattle.knots.specs.Knots.{boundsIn, unrolledOf, breaksIn};
-ghost use Rattle.questions.specs.Questions.{askedNumber, askedLine, turnFits, rangeFits, parted, askWithin};
+ghost use Rattle.questions.specs.Questions.{askedNumber, askedLine, turnFits, wholeTurn, rangeFits, parted, askWithin};
 
 // Why a question is refused, or that it is fine. A number 1 or 2 is the line at fault.
 pub enum Asked {
@@ -47,6 +47,17 @@ fn turn_fits(bounds: points::Interval, lo: f64, hi: f64) -> bool
 {
     if lo < bounds.hi {
         return hi - lo <= bounds.hi - bounds.lo;
+    }
+    false
+}
+
+// Whether a range is a whole turn of a closed line: as long as the period.
+pub fn whole_turn(closed: bool, knots: &[f64], lo: f64, hi: f64) -> bool
+    requires { ⌜ 1 ≤ length (now knots) ⌝ }
+    ensures { λ r. ⌜ r ≡ wholeTurn closed (now (knots .entry)) lo hi ⌝ }
+{
+    if closed {
+        return hi - lo == knots[knots.len() - 1] - knots[0];
     }
     false
 }

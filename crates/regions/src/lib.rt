@@ -38,7 +38,7 @@ struct Swept {
 }
 
 // Whether two closed ranges meet.
-fn meet(a0: f64, a1: f64, b0: f64, b1: f64) -> bool
+pub fn meet(a0: f64, a1: f64, b0: f64, b1: f64) -> bool
     ensures { λ r. ⌜ r ≡ meetOf a0 a1 b0 b1 ⌝ }
 {
     if a0 <= b1 {
@@ -87,7 +87,7 @@ pub fn store(s: &mut [f64], i: usize, r: Region)
 }
 
 // The region in the i-th place of ten floats.
-fn load(s: &[f64], i: usize) -> Region
+pub fn load(s: &[f64], i: usize) -> Region
     requires { ⌜ (i + 1) * 10 ≤ length (now s) ⌝ }
     ensures { λ r. ⌜ r ≡ regionAt (block 10 i (now (s .entry))) ⌝ }
 {

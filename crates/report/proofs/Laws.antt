@@ -3,7 +3,7 @@ use mathlib.Core.Path.{_≡_, refl, sym, ap, _∙_}
 use mathlib.Core.Bool.{true, false, _&&_}
 use mathlib.Core.List.{List, [], _∷_, _++_, append-assoc}
 use Prim.Native.Nat.{ℕ, zero, suc, _+_, _*_, _≤_, _<_}
-use native.Mathlib.Nat.{le-trans, mul-le-mul-right}
+use native.Mathlib.Nat.{le-trans, mul-le-mul, mul-le-mul-right}
 use native.Mathlib.Numerals.{add-one}
 use native.Mathlib.Omega.{arith}
 use lib.Dec.{leb, eqb}
@@ -13,18 +13,24 @@ use borrow.Author.Tests.{leb-true, eqb-true}
 use Rattle.lists.specs.Parts.{patch}
 use Rattle.lists.proofs.Parts.{patch-twice}
 use Rattle.machine.specs.Merge.{merged}
+use Rattle.machine.specs.Marks.{marksOf}
+use Rattle.terms.specs.declared.Seam.{Seam}
+use Rattle.terms.specs.Terms.{seamOf1, seamOf2}
+use Rattle.stretches.specs.Stretches.{nearIn}
+use Rattle.stretches.proofs.Marked.{report-marks}
 use Rattle.regions.specs.declared.Region.{Region}
 use Rattle.regions.specs.declared.Word.{Word}
 use Rattle.regions.specs.Regions.{merging, flat, flats, regionsIn}
 use Rattle.regions.specs.Reports.{wordFor, reportSlice}
-use Rattle.regions.proofs.Laws.{flats-length}
+use Rattle.machine.proofs.Merged.{merged-length}
+use Rattle.regions.proofs.Laws.{flats-length, regions-length}
 use Rattle.states.specs.declared.State.{State}
 use Rattle.states.specs.declared.Counts.{Counts}
-use Rattle.states.specs.States.{Memory, memory, Sizes, sizes, needed, enough, topFits, searchWith, isSearch, over, countsOf}
+use Rattle.states.specs.States.{Memory, memory, Sizes, sizes, needed, enough, topFits, searchWith, isSearch, over, countsOf, allowanceOf, recordsOf}
 use Rattle.nodes.specs.Geometry.{Geometry}
 use Rattle.states.proofs.Tests.{and-first, and-second, slots-fit, room-all}
 use Rattle.report.specs.declared.Reported.the-variants.{Told, Running, NoRoom}
-use Rattle.report.specs.Reports.{reporting, slotRegion, leftRegions, rawAfter, writeReport, reportDef}
+use Rattle.report.specs.Reports.{Output, output, outRoom, reporting, slotRegion, leftRegions, rawAfter, writeReport, reportDef}
 
 -- slot k is there, of so many as there are nodes
 pub slot-below : (k n w len : ℕ) → k < n → n * w ≤ len → (k + 1) * w ≤ len
@@ -67,61 +73,78 @@ few-waiting P (suc n) d e =
     let b = leb-true d 64 (and-second (leb (suc n) (P + d)) (leb d 64) e) in
     omega arith
 
-pub record RoomLeft (x : State) (s : Sizes) (n : ℕ) : Type 0 where
+-- n floats for the regions and k marks
+pub record RoomLeft (x : State) (s : Sizes) (n k : ℕ) : Type 0 where
   pub nets1 : x .waiting * (4 * x .width1) ≤ s .nets1
   pub nets2 : x .waiting * (4 * x .width2) ≤ s .nets2
   pub ranges : x .waiting * 4 ≤ s .ranges
   pub raw : (x .given + x .waiting) * 10 ≤ s .raw
   pub slice : (x .given + x .waiting) * 10 ≤ n
+  pub marks : x .given + x .waiting ≤ k
+  pub few : x .pairs ≤ 65535 → x .quota ≤ 65535 → x .given + x .waiting ≤ 4294967295
 
-pub room-left : (x : State) (d : ℕ) (s : Sizes) (n : ℕ) → enough (needed x) s ≡ true → leb (x .pairs * suc (x .quota) * 10) n ≡ true → searchWith x d ≡ true
-    → RoomLeft x s n
-room-left x d s n e l f =
+pub room-left : (x : State) (d : ℕ) (s : Sizes) (n k : ℕ) → enough (needed x) s ≡ true → leb (recordsOf x * 10) n && leb (recordsOf x) k ≡ true
+    → searchWith x d ≡ true → RoomLeft x s n k
+room-left x d s n k e l f =
     let b1 = topFits (x .pairs) (x .waiting) d in
     let b2 = eqb (x .pairs + x .splits) (x .settled + x .given + x .waiting) in
-    let b3 = eqb (x .splits + x .unspent) (x .quota * x .pairs) in
+    let b3 = eqb (x .splits + x .unspent) (allowanceOf x) in
     let b4 = leb (x .visits) (x .splits + x .settled + x .given + 1) in
     let f2 = and-second b1 (b2 && (b3 && b4)) f in
     let w = few-waiting (x .pairs) (x .waiting) d (and-first b1 (b2 && (b3 && b4)) f) in
     let bal = eqb-true (x .pairs + x .splits) (x .settled + x .given + x .waiting) (and-first b2 (b3 && b4) f2) in
-    let all = eqb-true (x .splits + x .unspent) (x .quota * x .pairs) (and-first b3 b4 (and-second b2 (b3 && b4) f2)) in
+    let all = eqb-true (x .splits + x .unspent) (allowanceOf x) (and-first b3 b4 (and-second b2 (b3 && b4) f2)) in
     let R = room-all x s e in
-    let k = leb-true (x .pairs * suc (x .quota) * 10) n l in
-    let g : x .given + x .waiting ≤ x .pairs * suc (x .quota) = omega arith in
+    let floats = leb-true (recordsOf x * 10) n (and-first (leb (recordsOf x * 10) n) (leb (recordsOf x) k) l) in
+    let marks = leb-true (recordsOf x) k (and-second (leb (recordsOf x * 10) n) (leb (recordsOf x) k) l) in
+    let g : x .given + x .waiting ≤ recordsOf x = omega arith in
     record {
       nets1 = slots-fit (x .pairs) (x .waiting) (4 * x .width1) (s .nets1) w (R .nets1);
       nets2 = slots-fit (x .pairs) (x .waiting) (4 * x .width2) (s .nets2) w (R .nets2);
       ranges = slots-fit (x .pairs) (x .waiting) 4 (s .ranges) w (R .ranges);
       raw = le-trans (mul-le-mul-right 10 g) (R .raw);
-      slice = le-trans (mul-le-mul-right 10 g) k;
+      slice = le-trans (mul-le-mul-right 10 g) floats;
+      marks = le-trans g marks;
+      few = λ p q. let w = mul-le-mul q p in omega (arith, g, w);
     }
 
+-- there are no more merged regions than raw ones, so each has room for its mark
+pub few-marks : (x : State) {s : Sizes} {n k : ℕ} (m : ℕ) (l : List Float) → x .pairs ≤ 65535 → x .quota ≤ 65535 → RoomLeft x s n k
+    → m ≡ length (merged merging (regionsIn (x .given + x .waiting) l)) → (m ≤ 4294967295) × (m * 10 ≤ n) × (m ≤ k)
+few-marks x m l p q r e =
+    let a = merged-length merging (regionsIn (x .given + x .waiting) l) in
+    let b = regions-length (x .given + x .waiting) l in
+    let g : m ≤ x .given + x .waiting = omega (arith, a, b, e) in
+    (le-trans g (r .few p q), le-trans (mul-le-mul-right 10 g) (r .slice), le-trans g (r .marks))
+
 -- ---- a report: one test a return
-module _ (G : Geometry) (x : State) (u : Memory) (slice : List Float) where
-  pub report-running : over x ≡ false → reporting Running u slice ≡ reportDef G x u slice
-  report-running o = rw o refl
+module _ (G : Geometry) (x : State) (u : Memory) (o : Output) where
+  pub report-running : over x ≡ false → reporting Running u o ≡ reportDef G x u o
+  report-running e = rw e refl
 
-  pub report-short : over x ≡ true → enough (needed x) (sizes u) ≡ false → reporting NoRoom u slice ≡ reportDef G x u slice
-  report-short o e = rw (o, e) refl
+  pub report-short : over x ≡ true → enough (needed x) (sizes u) ≡ false → reporting NoRoom u o ≡ reportDef G x u o
+  report-short e f = rw (e, f) refl
 
-  pub report-cramped : over x ≡ true → enough (needed x) (sizes u) ≡ true → leb (x .pairs * suc (x .quota) * 10) (length slice) ≡ false
-      → reporting NoRoom u slice ≡ reportDef G x u slice
-  report-cramped o e l = rw (o, e, l) refl
+  pub report-cramped : over x ≡ true → enough (needed x) (sizes u) ≡ true → outRoom (recordsOf x) o ≡ false → reporting NoRoom u o ≡ reportDef G x u o
+  report-cramped e f l = rw (e, f, l) refl
 
-  pub report-forged : over x ≡ true → enough (needed x) (sizes u) ≡ true → leb (x .pairs * suc (x .quota) * 10) (length slice) ≡ true
-      → isSearch x u ≡ false → reporting NoRoom u slice ≡ reportDef G x u slice
-  report-forged o e l s = rw (o, e, l, s) refl
+  pub report-forged : over x ≡ true → enough (needed x) (sizes u) ≡ true → outRoom (recordsOf x) o ≡ true → isSearch x u ≡ false
+      → reporting NoRoom u o ≡ reportDef G x u o
+  report-forged e f l s = rw (e, f, l, s) refl
 
-  pub report-told : over x ≡ true → enough (needed x) (sizes u) ≡ true → leb (x .pairs * suc (x .quota) * 10) (length slice) ≡ true → isSearch x u ≡ true
-      → (w : Word) (c : Counts) (n : ℕ) (raw out : List Float) → w ≡ wordFor (x .given) (x .waiting) → c ≡ countsOf x
+  pub report-told : over x ≡ true → enough (needed x) (sizes u) ≡ true → outRoom (recordsOf x) o ≡ true → isSearch x u ≡ true
+      → (w : Word) (c : Counts) (n : ℕ) (raw out : List Float) (marks : List ℕ) (a b : Seam) → w ≡ wordFor (x .given) (x .waiting) → c ≡ countsOf x
       → raw ≡ rawAfter G x u → n ≡ length (merged merging (regionsIn (x .given + x .waiting) raw))
-      → out ≡ reportSlice (x .given + x .waiting) (merged merging (regionsIn (x .given + x .waiting) raw)) slice
-      → reporting (Told w c n) (memory (u .nets1) (u .nets2) (u .ranges) (u .depths) raw) out ≡ reportDef G x u slice
-  report-told o e l s w c n raw out ew ec er en eo =
+      → out ≡ reportSlice (x .given + x .waiting) (merged merging (regionsIn (x .given + x .waiting) raw)) (o .regions)
+      → a ≡ seamOf1 (x .terms) → b ≡ seamOf2 (x .terms) → marks ≡ patch (o .marks) 0 (marksOf n (nearIn a b out))
+      → reporting (Told w c n) (memory (u .nets1) (u .nets2) (u .ranges) (u .depths) raw) (output out marks) ≡ reportDef G x u o
+  report-told e f l s w c n raw out marks a b ew ec er en eo ea eb em =
       let fn = en ∙ ap (λ (r : List Float). length (merged merging (regionsIn (x .given + x .waiting) r))) er in
-      let fo = eo ∙ ap (λ (r : List Float). reportSlice (x .given + x .waiting) (merged merging (regionsIn (x .given + x .waiting) r)) slice) er in
-      (λ i. reporting (Told (ew i) (ec i) (fn i)) (memory (u .nets1) (u .nets2) (u .ranges) (u .depths) (er i)) (fo i))
+      let fo = eo ∙ ap (λ (r : List Float). reportSlice (x .given + x .waiting) (merged merging (regionsIn (x .given + x .waiting) r)) (o .regions)) er in
+      let fm = report-marks (seamOf1 (x .terms)) (seamOf2 (x .terms)) (x .given + x .waiting) n (merged merging (regionsIn (x .given + x .waiting) (rawAfter G x u)))
+      (o .regions) out (o .marks) marks fn fo (em ∙ (λ i. patch (o .marks) 0 (marksOf n (nearIn (ea i) (eb i) out)))) in
+      (λ i. reporting (Told (ew i) (ec i) (fn i)) (memory (u .nets1) (u .nets2) (u .ranges) (u .depths) (er i)) (output (fo i) (fm i)))
       ∙ accepted
     where
-      accepted : writeReport G x u slice ≡ reportDef G x u slice
-      accepted = rw (o, e, l, s) refl
+      accepted : writeReport G x u o ≡ reportDef G x u o
+      accepted = rw (e, f, l, s) refl

@@ -8,7 +8,7 @@ use lib.ListN.{length}
 use Rattle.lists.specs.Parts.{block}
 use Rattle.verdicts.specs.declared.Verdict.{Verdict}
 use Rattle.states.specs.declared.State.{State}
-use Rattle.states.specs.States.{Memory, Sizes, sizes, needed, enough, enoughOwn, depthAt, topDepth, searchWith, isSearch, over, topOf}
+use Rattle.states.specs.States.{Memory, Sizes, sizes, needed, enough, enoughOwn, depthAt, topDepth, searchWith, isSearch, over, topOf, allowanceOf, recordsOf}
 use Rattle.states.proofs.Tests.{waits, sound, slots-fit, room-own, room-all, top-slot, top-ended, top-refused, top-node}
 use Rattle.states.specs.declared.Top.the-variants.{Node, Ended as TopEnded, NoRoom as TopNoRoom}
 use Rattle.search.specs.declared.Stepped.the-variants.{Next, Ended, NoRoom}
@@ -64,9 +64,9 @@ room x d s hp hq o e f =
     let bal = S .balance in
     let all = S .allowance in
     let see = S .seen in
-    let prod : x .quota * x .pairs ≤ 65535 * 65535 = mul-le-mul hq hp in
+    let prod : allowanceOf x ≤ 65535 * 65535 = mul-le-mul hq hp in
     let k1 : x .waiting - 1 + 1 ≤ x .pairs + 64 = omega arith in
-    let g1 : x .given + 1 ≤ x .pairs * suc (x .quota) = omega arith in
+    let g1 : x .given + 1 ≤ recordsOf x = omega arith in
     record {
       top = omega arith;
       nets1 = slots-fit (x .pairs) (x .waiting - 1 + 1) (4 * x .width1) (s .nets1) k1 (R .nets1);

@@ -1,5 +1,5 @@
 -- The sheet program: what is printed for a sheet's bytes (document 01, "Sheet program"). Definitions only.
-use Prim.Native.Nat.{ℕ, _+_}
+use Prim.Native.Nat.{ℕ, _+_, _*_}
 use mathlib.Core.List.{List, _++_}
 use mathlib.Core.Bool.{cond}
 use lib.Dec.{ltb}
@@ -19,51 +19,61 @@ use Rattle.search.specs.Steps.{steppedNumber}
 use Rattle.search.specs.Runs.{runDef}
 use Rattle.report.specs.declared.Reported.{Reported}
 use Rattle.report.specs.declared.Reported.the-variants.{Told, Running, NoRoom as NoReportRoom}
-use Rattle.report.specs.Reports.{reportedNumber, reportDef}
+use Rattle.report.specs.Reports.{Output, output, reportedNumber, reportDef}
 use Rattle.opening.specs.declared.Question.{Question as Asking}
 use Rattle.opening.specs.declared.Opened.{Opened}
 use Rattle.opening.specs.declared.Opened.the-variants.{Open, BadLine, BadQuestion, NoRoom as NoOpenRoom}
 use Rattle.opening.specs.Opens.{openedNumber, openedLine, openDef}
-use Rattle.printing.specs.Printed.{countLine, regionLines, refusalLine}
+use Rattle.printing.specs.Printed.{countsLength, regionLength, countLine, regionLines, refusalLine}
 
--- ---- "It lends 8,112 floats a line for pieces, 7,904 a line for nets, 304 for ranges, 76 depths, 8,190 each for raw and report": zeros
+-- ---- "It lends 8,112 floats a line for pieces, 7,904 a line for nets, 304 for ranges, 76 depths, 8,190 each for raw and report"; marks, "the sheet program lends 819": zeros
 unfoldable pub zeros : ℕ → List Float
 zeros n = replicate n zero64
 
 unfoldable pub zeroDepths : List ℕ
 zeroDepths = replicate 76 0
 
+-- how many regions the report's slices have room for
+abbrev pub lentRegions : ℕ
+lentRegions = 819
+
+unfoldable pub zeroMarks : List ℕ
+zeroMarks = replicate lentRegions 0
+
 abbrev pub lent : Memory
 lent = memory (zeros 7904) (zeros 7904) (zeros 304) zeroDepths (zeros 8190)
 
+abbrev pub lentOutput : Output
+lentOutput = output (zeros 8190) zeroMarks
+
 -- ---- what each answer prints: a report its lines, a refusal the paper's number
-abbrev pub reportedText : Reported → List Float → List ℕ
-reportedText (Told w c n) list = countLine w c n ++ regionLines n list
-reportedText Running list = refusalLine (reportedNumber Running) 0
-reportedText NoReportRoom list = refusalLine (reportedNumber NoReportRoom) 0
+abbrev pub reportedText : Reported → Output → List ℕ
+reportedText (Told w c n) o = countLine w c n ++ regionLines n (o .regions) (o .marks)
+reportedText Running o = refusalLine (reportedNumber Running) 0
+reportedText NoReportRoom o = refusalLine (reportedNumber NoReportRoom) 0
 
 -- the report of a search that has ended (`answer_report`)
-unfoldable pub reportText : State → Memory → List Float → List ℕ
-reportText x u list = let o = reportDef geometry x u list in reportedText (o .answer) (o .slice)
+unfoldable pub reportText : State → Memory → Output → List ℕ
+reportText x u out = let o = reportDef geometry x u out in reportedText (o .answer) (o .output)
 
-abbrev pub steppedText : Stepped → Memory → List Float → List ℕ
-steppedText (Next x) u list = reportText x u list
-steppedText Ended u list = refusalLine (steppedNumber Ended) 0
-steppedText NoRoom u list = refusalLine (steppedNumber NoRoom) 0
+abbrev pub steppedText : Stepped → Memory → Output → List ℕ
+steppedText (Next x) u out = reportText x u out
+steppedText Ended u out = refusalLine (steppedNumber Ended) 0
+steppedText NoRoom u out = refusalLine (steppedNumber NoRoom) 0
 
 -- "a loop above, which the sheet program runs, that gives each step the search's own verdict until the search ends", then the report (`answer_search`)
-unfoldable pub searchText : State → Memory → List Float → List ℕ
-searchText x u list = let o = runDef geometry x u in steppedText (o .answer) (o .memory) list
+unfoldable pub searchText : State → Memory → Output → List ℕ
+searchText x u out = let o = runDef geometry x u in steppedText (o .answer) (o .memory) out
 
-abbrev pub openedText : Opened → Memory → List Float → List ℕ
-openedText (Open x) u list = searchText x u list
-openedText (BadLine line a) u list = refusalLine (openedNumber (BadLine line a)) (openedLine (BadLine line a))
-openedText (BadQuestion a) u list = refusalLine (openedNumber (BadQuestion a)) (openedLine (BadQuestion a))
-openedText NoOpenRoom u list = refusalLine (openedNumber NoOpenRoom) (openedLine NoOpenRoom)
+abbrev pub openedText : Opened → Memory → Output → List ℕ
+openedText (Open x) u out = searchText x u out
+openedText (BadLine line a) u out = refusalLine (openedNumber (BadLine line a)) (openedLine (BadLine line a))
+openedText (BadQuestion a) u out = refusalLine (openedNumber (BadQuestion a)) (openedLine (BadQuestion a))
+openedText NoOpenRoom u out = refusalLine (openedNumber NoOpenRoom) (openedLine NoOpenRoom)
 
 -- two lines and the question, opened on the lent memory (`answer_lines`)
 unfoldable pub linesText : Question → List ℕ
-linesText q = let o = openDef q (zeros 8112) (zeros 8112) lent in openedText (o .answer) (o .memory) (zeros 8190)
+linesText q = let o = openDef q (zeros 8112) (zeros 8112) lent in openedText (o .answer) (o .memory) lentOutput
 
 -- ---- the sheet
 -- "6 question (N is S; then lo, hi, lo, hi, gap as floats)", the floats at place `at` (`question_at`)
@@ -80,9 +90,9 @@ unfoldable pub answerOf : List ℕ → List ℕ
 answerOf s = walkedText (walkOf s)
 
 -- ---- into a lent buffer
--- the longest answer: 206 bytes for the line of counts, 177 for each of 819 regions
+-- the longest answer: the line of counts, and one for each region that there is room for; 162,368 bytes
 abbrev pub longest : ℕ
-longest = 145169
+longest = countsLength + lentRegions * regionLength
 
 -- how many bytes the answer has; none where the buffer is too short for the longest
 abbrev pub answerLength : List ℕ → List ℕ → ℕ

@@ -1,14 +1,15 @@
 // The sheet program's answer: the sheet's lines, the search, and what is printed.
 ghost use mathlib.Core.Path.{_≡_};
-ghost use Prim.Native.Nat.{_+_, _≤_};
+ghost use Prim.Native.Nat.{_+_, _*_, _≤_};
 ghost use lib.ListN.{length};
 ghost use Rattle.lists.specs.Parts.{patch};
 ghost use Rattle.lines.specs.Lines.{lineOf};
 ghost use Rattle.opening.specs.Opens.{questionOf};
 ghost use Rattle.states.specs.States.{memory};
+ghost use Rattle.report.specs.Reports.{output};
 ghost use Rattle.walks.specs.Places.{lineIn, LineInside};
 ghost use Rattle.texts.specs.Texts.{Wrote};
-ghost use Rattle.sheet.specs.Answers.{zeros, zeroDepths, reportText, searchText, linesText, askingAt, answerOf, answerLength, answerIn};
+ghost use Rattle.sheet.specs.Answers.{zeros, zeroDepths, zeroMarks, lentRegions, longest, reportText, searchText, linesText, askingAt, answerOf, answerLength, answerIn};
 use opening::Opened;
 use opening::Question;
 use report::Reported;
@@ -27,16 +28,17 @@ fn answer_report<'a>(
     depths: &[u8],
     raw: &mut [f64],
     list: &mut [f64],
+    marks: &mut [u32],
     out: &mut [u8],
 ) -> usize
-    requires { ⌜ (145169 ≤ length (now out)) × (length (now list) ≤ 8190) ⌝ }
+    requires { ⌜ (longest ≤ length (now out)) × (length (now list) ≤ lentRegions * 10) ⌝ }
     ensures { λ r. ⌜ (let u = memory (now (nets1 .entry)) (now (nets2 .entry)) (now (ranges .entry)) (now (depths .entry)) (now (raw .entry)) in
-        Wrote (now (out .entry)) 0 (reportText st u (now (list .entry))) (now (out .exit)) r) ⌝ }
+        Wrote (now (out .entry)) 0 (reportText st u (output (now (list .entry)) (now (marks .entry)))) (now (out .exit)) r) ⌝ }
 {
-    match report::report(st, nets1, nets2, ranges, depths, raw, list) {
+    match report::report(st, nets1, nets2, ranges, depths, raw, list, marks) {
         Reported::Told(w, c, n) => {
             let at = printing::put_counts(out, w, c, n);
-            printing::put_regions(out, at, list, n)
+            printing::put_regions(out, at, list, marks, n)
         }
         Reported::Running => printing::put_refusal(out, 21, 0),
         Reported::NoRoom => printing::put_refusal(out, 19, 0),
@@ -52,14 +54,25 @@ fn answer_search(
     depths: &mut [u8],
     raw: &mut [f64],
     list: &mut [f64],
+    marks: &mut [u32],
     out: &mut [u8],
 ) -> usize
-    requires { ⌜ (145169 ≤ length (now out)) × (length (now list) ≤ 8190) ⌝ }
+    requires { ⌜ (longest ≤ length (now out)) × (length (now list) ≤ lentRegions * 10) ⌝ }
     ensures { λ r. ⌜ (let u = memory (now (nets1 .entry)) (now (nets2 .entry)) (now (ranges .entry)) (now (depths .entry)) (now (raw .entry)) in
-        Wrote (now (out .entry)) 0 (searchText st u (now (list .entry))) (now (out .exit)) r) ⌝ }
+        Wrote (now (out .entry)) 0 (searchText st u (output (now (list .entry)) (now (marks .entry)))) (now (out .exit)) r) ⌝ }
 {
     match search::run(st, nets1, nets2, ranges, depths, raw) {
-        Stepped::Next(end) => answer_report(end, nets1, nets2, ranges, depths, raw, list, out),
+        Stepped::Next(end) => answer_report(
+            end,
+            nets1,
+            nets2,
+            ranges,
+            depths,
+            raw,
+            list,
+            marks,
+            out,
+        ),
         Stepped::Ended => printing::put_refusal(out, 20, 0),
         Stepped::NoRoom => printing::put_refusal(out, 19, 0),
     }
@@ -95,6 +108,12 @@ fn region_room() -> [f64; 8190]
     [0.0f64; 8190]
 }
 
+fn mark_room() -> [u32; 819]
+    ensures { λ r. ⌜ (r ≡ zeroMarks) × (length r ≡ lentRegions) ⌝ }
+{
+    [0u32; 819]
+}
+
 // The opening on the lent memory, the search and its report.
 fn answer_lines(
     q: Question,
@@ -112,7 +131,7 @@ fn answer_lines(
     weights2: &[f64],
     out: &mut [u8],
 ) -> usize
-    requires { ⌜ 145169 ≤ length (now out) ⌝ }
+    requires { ⌜ longest ≤ length (now out) ⌝ }
     ensures { λ r. ⌜ (let l1 = lineOf closed1 degree1 (now (knots1 .entry)) (now (mults1 .entry)) (now (coords1 .entry)) (now (weights1 .entry)) in
         let l2 = lineOf closed2 degree2 (now (knots2 .entry)) (now (mults2 .entry)) (now (coords2 .entry)) (now (weights2 .entry)) in
         Wrote (now (out .entry)) 0 (linesText (questionOf q l1 l2)) (now (out .exit)) r) ⌝ }
@@ -125,6 +144,7 @@ fn answer_lines(
     let mut depths = depth_room();
     let mut raw = region_room();
     let mut list = region_room();
+    let mut marks = mark_room();
     match opening::open(
         q,
         closed1,
@@ -155,6 +175,7 @@ fn answer_lines(
             &mut depths,
             &mut raw,
             &mut list,
+            &mut marks,
             out,
         ),
         Opened::BadLine(line, a) => printing::put_refusal(out, lines::admission_number(a), line),
@@ -209,7 +230,7 @@ fn answer_second(
     l: Line,
     out: &mut [u8],
 ) -> usize
-    requires { ⌜ (145169 ≤ length (now out)) × (length (now s) ≤ 16384) × LineInside (length (now s)) l ⌝ }
+    requires { ⌜ (longest ≤ length (now out)) × (length (now s) ≤ 16384) × LineInside (length (now s)) l ⌝ }
     ensures { λ r. ⌜ (let l1 = lineOf closed1 degree1 (now (knots1 .entry)) (now (mults1 .entry)) (now (coords1 .entry)) (now (weights1 .entry)) in
         let l2 = lineIn (now (s .entry)) l in
         Wrote (now (out .entry)) 0 (linesText (questionOf q l1 l2)) (now (out .exit)) r) ⌝ }
@@ -243,7 +264,7 @@ fn answer_second(
 
 // The first line read, then the second.
 fn answer_first(s: &[u8], q: Question, l: Line, second: Line, out: &mut [u8]) -> usize
-    requires { ⌜ (145169 ≤ length (now out)) × (length (now s) ≤ 16384) × LineInside (length (now s)) l × LineInside (length (now s)) second ⌝ }
+    requires { ⌜ (longest ≤ length (now out)) × (length (now s) ≤ 16384) × LineInside (length (now s)) l × LineInside (length (now s)) second ⌝ }
     ensures { λ r. ⌜ (let l1 = lineIn (now (s .entry)) l in
         let l2 = lineIn (now (s .entry)) second in
         Wrote (now (out .entry)) 0 (linesText (questionOf q l1 l2)) (now (out .exit)) r) ⌝ }
@@ -273,7 +294,7 @@ fn answer_first(s: &[u8], q: Question, l: Line, second: Line, out: &mut [u8]) ->
 
 // The answer to any bytes, in a buffer that the longest fits.
 fn answer_sheet(s: &[u8], out: &mut [u8]) -> usize
-    requires { ⌜ 145169 ≤ length (now out) ⌝ }
+    requires { ⌜ longest ≤ length (now out) ⌝ }
     ensures { λ r. ⌜ (r ≡ length (answerOf (now (s .entry)))) × (now (out .exit) ≡ patch (now (out .entry)) 0 (answerOf (now (s .entry)))) ⌝ }
 {
     let w = walks::walk(s);
@@ -289,7 +310,7 @@ fn answer_sheet(s: &[u8], out: &mut [u8]) -> usize
 pub fn answer(s: &[u8], out: &mut [u8]) -> usize
     ensures { λ r. ⌜ (r ≡ answerLength (now (s .entry)) (now (out .entry))) × (now (out .exit) ≡ answerIn (now (s .entry)) (now (out .entry))) ⌝ }
 {
-    if out.len() < 145169 {
+    if out.len() < 162368 {
         return 0;
     }
     answer_sheet(s, out)

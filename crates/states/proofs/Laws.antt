@@ -11,11 +11,15 @@ use lib.Dec.{eqb}
 use borrow.Author.Tests.{le-leb, lt-leb, ne-eqb}
 use Rattle.lists.proofs.Loops.{nothing-left}
 use Rattle.states.specs.declared.State.{State}
-use Rattle.states.specs.States.{topDepth, topFits, isZero, over}
+use Rattle.states.specs.States.{recordsOf, topDepth, topFits, isZero, over}
 
 -- of two 16-bit numbers, or such a number and 64 more; also ten times as much
 pub product-fits : (a b : ℕ) → a ≤ 65600 → b ≤ 65600 → (a * b < 2 ^ 64) × (a * b * 10 < 2 ^ 64)
 product-fits a b h k = let w = mul-le-mul h k in (omega arith, omega arith)
+
+-- ten for each record
+pub ten-fits : (x : State) {r : ℕ} → x .pairs ≤ 65535 → x .quota ≤ 65535 → r ≡ recordsOf x → r * 10 < 2 ^ 64
+ten-fits x h k e = let w = mul-le-mul k h in omega (arith, w, e)
 
 pub no-depth : (n : ℕ) (l : List ℕ) → n ≡ 0 → 0 ≡ topDepth n l
 no-depth zero l e = refl

@@ -10,7 +10,7 @@ use borrow.Author.Tests.{leb-true, eqb-true}
 use Rattle.states.specs.declared.State.{State}
 use Rattle.states.specs.declared.Top.{Top}
 use Rattle.states.specs.declared.Top.the-variants.{Node, Ended, NoRoom}
-use Rattle.states.specs.States.{Sizes, needed, enough, enoughOwn, depthAt, topFits, searchWith, topDepth, isZero, over, topOf}
+use Rattle.states.specs.States.{Sizes, needed, enough, enoughOwn, depthAt, topFits, searchWith, topDepth, isZero, over, topOf, allowanceOf, recordsOf}
 
 -- ---- both halves of a test
 pub and-first : (a b : Bool) → a && b ≡ true → a ≡ true
@@ -42,7 +42,7 @@ pub record Sound (x : State) (d : ℕ) : Type 0 where
   pub top : x .waiting ≤ x .pairs + d
   pub deep : d ≤ 64
   pub balance : x .pairs + x .splits ≡ x .settled + x .given + x .waiting
-  pub allowance : x .splits + x .unspent ≡ x .quota * x .pairs
+  pub allowance : x .splits + x .unspent ≡ allowanceOf x
   pub seen : x .visits ≤ x .splits + x .settled + x .given + 1
 
 top-is : (P n d : ℕ) → 1 ≤ n → topFits P n d ≡ true → (n ≤ P + d) × (d ≤ 64)
@@ -53,7 +53,7 @@ pub sound : (x : State) (d : ℕ) → 1 ≤ x .waiting → searchWith x d ≡ tr
 sound x d h e =
     let b1 = topFits (x .pairs) (x .waiting) d in
     let b2 = eqb (x .pairs + x .splits) (x .settled + x .given + x .waiting) in
-    let b3 = eqb (x .splits + x .unspent) (x .quota * x .pairs) in
+    let b3 = eqb (x .splits + x .unspent) (allowanceOf x) in
     let b4 = leb (x .visits) (x .splits + x .settled + x .given + 1) in
     let e2 = and-second b1 (b2 && (b3 && b4)) e in
     let e3 = and-second b2 (b3 && b4) e2 in
@@ -99,7 +99,7 @@ pub record RoomAll (x : State) (s : Sizes) : Type 0 where
   pub nets2 : (x .pairs + 64) * (4 * x .width2) ≤ s .nets2
   pub ranges : (x .pairs + 64) * 4 ≤ s .ranges
   pub depths : (x .pairs + 64) * 1 ≤ s .depths
-  pub raw : x .pairs * suc (x .quota) * 10 ≤ s .raw
+  pub raw : recordsOf x * 10 ≤ s .raw
 
 pub enough-own : (need have : Sizes) → enough need have ≡ true → enoughOwn need have ≡ true
 enough-own need have e = and-first (enoughOwn need have) _ e
@@ -107,7 +107,7 @@ enough-own need have e = and-first (enoughOwn need have) _ e
 pub room-all : (x : State) (s : Sizes) → enough (needed x) s ≡ true → RoomAll x s
 room-all x s e =
     let b4 = leb ((x .pairs + 64) * 4) (s .ranges) in
-    let b5 = leb (x .pairs * suc (x .quota) * 10) (s .raw) in
+    let b5 = leb (recordsOf x * 10) (s .raw) in
     let own = room-own x s (enough-own (needed x) s e) in
     let e4 = and-second (enoughOwn (needed x) s) (b4 && b5) e in
     record {

@@ -7,6 +7,7 @@ use lib.ListN.{length, getD}
 use lib.Ieee.{Float}
 use Rattle.lists.specs.Parts.{block}
 use Rattle.machine.specs.Machine.{limit}
+use Rattle.terms.specs.declared.Terms.{Terms}
 use Rattle.states.specs.declared.State.{State}
 use Rattle.states.specs.declared.Counts.{Counts}
 use Rattle.states.specs.declared.Top.{Top}
@@ -24,8 +25,8 @@ abbrev pub memory : List Float → List Float → List Float → List ℕ → Li
 memory a b r d w = record { nets1 = a; nets2 = b; ranges = r; depths = d; raw = w }
 
 -- the state of a fresh search of P pairs: all wait, and S × P may be spent
-abbrev pub firstState : ℕ → ℕ → ℕ → ℕ → Float → State
-firstState P S w1 w2 gap =
+abbrev pub firstState : ℕ → ℕ → ℕ → ℕ → Float → Terms → State
+firstState P S w1 w2 gap terms =
     record {
       pairs = P;
       quota = S;
@@ -39,6 +40,7 @@ firstState P S w1 w2 gap =
       width2 = w2;
       gap = gap;
       stopped = false;
+      terms = terms;
     }
 
 -- five lengths: of a memory's slices, of what is lent of them, of what is needed
@@ -52,6 +54,14 @@ pub record Sizes : Type 0 where
 abbrev pub sizes : Memory → Sizes
 sizes u = record { nets1 = length (u .nets1); nets2 = length (u .nets2); ranges = length (u .ranges); depths = length (u .depths); raw = length (u .raw) }
 
+-- "one of S × P is spent": the allowance that a search starts with (`allowance`)
+abbrev pub allowanceOf : State → ℕ
+allowanceOf x = x .quota * x .pairs
+
+-- how many regions there can be, P × (S + 1): one a starting pair, and one more a split (`records`)
+abbrev pub recordsOf : State → ℕ
+recordsOf x = x .pairs + allowanceOf x
+
 -- "nets (P + 64) × 4 × width for each line; node ranges 4 × (P + 64), and as many depths as nodes; raw regions 10 × P × (S + 1)"
 abbrev pub needed : State → Sizes
 needed x = record {
@@ -60,7 +70,7 @@ needed x = record {
   ranges = (x .pairs + limit) * 4;
   -- one a node
   depths = (x .pairs + limit) * 1;
-  raw = x .pairs * suc (x .quota) * 10;
+  raw = recordsOf x * 10;
 }
 
 -- the own verdict is lent the nets and the depths, a step the ranges and the raw regions too
@@ -84,7 +94,7 @@ abbrev pub searchWith : State → ℕ → Bool
 searchWith x d =
     topFits (x .pairs) (x .waiting) d
     && (eqb (x .pairs + x .splits) (x .settled + x .given + x .waiting)
-    && (eqb (x .splits + x .unspent) (x .quota * x .pairs)
+    && (eqb (x .splits + x .unspent) (allowanceOf x)
     && leb (x .visits) (x .splits + x .settled + x .given + 1)))
 
 -- the top node's depth, of so many waiting

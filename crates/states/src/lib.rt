@@ -1,7 +1,8 @@
 // The state of a search, and number 19's tests of it and of the lent memory.
 ghost use mathlib.Core.Path.{_≡_};
 ghost use Prim.Native.Nat.{_+_, _*_, _≤_};
-ghost use Rattle.states.specs.States.{needed, enough, enoughOwn, topDepth, topFits, searchWith, over, countsOf, topOf, firstState};
+ghost use Rattle.states.specs.States.{allowanceOf, recordsOf, needed, enough, enoughOwn, topDepth, topFits, searchWith, over, countsOf, topOf, firstState};
+use terms::Terms;
 
 // All that a search is, but for the nodes and regions in the lent memory.
 pub struct State {
@@ -25,6 +26,8 @@ pub struct State {
     pub gap: f64,
     // a split came due with no allowance left
     pub stopped: bool,
+    // what only the report reads
+    pub terms: Terms,
 }
 
 // A search's result: document 01's counts, and the allowance left.
@@ -47,9 +50,9 @@ pub enum Top {
 }
 
 // The state of a fresh search of so many pairs.
-pub fn fresh(pairs: usize, splits: u32, w1: usize, w2: usize, gap: f64) -> State
+pub fn fresh(pairs: usize, splits: u32, w1: usize, w2: usize, gap: f64, terms: Terms) -> State
     requires { ⌜ (pairs ≤ 65025) × (splits ≤ 256) × (w1 ≤ 26) × (w2 ≤ 26) ⌝ }
-    ensures { λ r. ⌜ r ≡ firstState pairs splits w1 w2 gap ⌝ }
+    ensures { λ r. ⌜ r ≡ firstState pairs splits w1 w2 gap terms ⌝ }
 {
     State {
         pairs: pairs as u16,
@@ -64,6 +67,7 @@ pub fn fresh(pairs: usize, splits: u32, w1: usize, w2: usize, gap: f64) -> State
         width2: w2 as u8,
         gap,
         stopped: false,
+        terms,
     }
 }
 
@@ -90,6 +94,20 @@ pub fn result(st: State) -> Counts
         left,
         unspent: st.unspent,
     }
+}
+
+// The splits that a search may make, S × P.
+fn allowance(st: State) -> u32
+    ensures { λ r. ⌜ r ≡ allowanceOf st ⌝ }
+{
+    st.quota as u32 * st.pairs as u32
+}
+
+// How many regions there can be: one a starting pair, and one more a split.
+pub fn records(st: State) -> usize
+    ensures { λ r. ⌜ r ≡ recordsOf st ⌝ }
+{
+    st.pairs as usize + allowance(st) as usize
 }
 
 // Whether nets and depths of these lengths are enough for the own verdict.
@@ -124,7 +142,7 @@ pub fn has_room(
     if ranges < (st.pairs as usize + 64) * 4 {
         return false;
     }
-    raw >= st.pairs as usize * (st.quota as usize + 1) * 10
+    raw >= records(st) * 10
 }
 
 // The depth of the top node of so many waiting; 0 where its slot isn't lent.
@@ -167,7 +185,7 @@ pub fn is_search(st: State, depth: u8) -> bool
     if st.pairs as u64 + splits != settled + given + st.waiting as u64 {
         return false;
     }
-    if splits + st.unspent as u64 != st.quota as u64 * (st.pairs as u64) {
+    if splits + st.unspent as u64 != allowance(st) as u64 {
         return false;
     }
     st.visits <= splits + settled + given + 1

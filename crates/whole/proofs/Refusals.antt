@@ -27,7 +27,7 @@ use Rattle.opening.proofs.Laws.{is-admitted}
 use Rattle.walks.specs.Words.{wordAt, kindOf, countOf}
 use Rattle.walks.specs.Sheets.{Walked, walked, refusedAs, badLength, badCount, sizeOf, partOf, wordStands, weightsOf, lineKind, lineAfter, walkOf}
 use Rattle.printing.specs.Printed.{refusalLine}
-use Rattle.sheet.specs.Answers.{zeros, lent, openedText, linesText, walkedText, answerOf}
+use Rattle.sheet.specs.Answers.{zeros, lent, openedText, linesText, walkedText, answerOf, lentOutput}
 use Rattle.whole.specs.Refusals.{OneOf, Numbered, GoodLine, GoodQuestion, Short, Faultless, Fault, inSheet, inFirst, inSecond, inQuestion, inMemory, FaultPrinted}
 
 -- ---- the walk refuses with 1, 2 or 3
@@ -229,9 +229,9 @@ module _ (q : Question) where
 
   -- what is printed for an answer that is no open search
   said : (s : List ℕ) → walkOf s ≡ walked q → (a : Opened) (l : List ℕ) → openDef q z z lent .answer ≡ a
-      → ((m : Memory) → openedText a m (zeros 8190) ≡ l) → answerOf s ≡ l
+      → ((m : Memory) → openedText a m lentOutput ≡ l) → answerOf s ≡ l
   unfolding answerOf linesText
-  said s walk a l e f = ap walkedText walk ∙ ap (λ (b : Opened). openedText b (openDef q z z lent .memory) (zeros 8190)) e ∙ f (openDef q z z lent .memory)
+  said s walk a l e f = ap walkedText walk ∙ ap (λ (b : Opened). openedText b (openDef q z z lent .memory) lentOutput) e ∙ f (openDef q z z lent .memory)
 
 pub fault-printed : FaultPrinted
 unfolding answerOf

@@ -42,11 +42,11 @@ zeroBytes = 32 ∷ replicate 16 48
 abbrev pub oneBytes : List ℕ
 oneBytes = 32 ∷ 51 ∷ 70 ∷ 70 ∷ replicate 13 48
 
--- "region", four ends of ranges, the lowest and the highest x, y, z
+-- "region", four ends of ranges, the lowest and the highest x, y, z, and " 0", the mark
 abbrev pub regionBytes : List ℕ
 regionBytes =
     (114 ∷ 101 ∷ 103 ∷ 105 ∷ 111 ∷ 110 ∷ [])
-    ++ (joined (zeroBytes ∷ oneBytes ∷ zeroBytes ∷ oneBytes ∷ zeroBytes ∷ zeroBytes ∷ zeroBytes ∷ oneBytes ∷ zeroBytes ∷ zeroBytes ∷ []) ++ (10 ∷ []))
+    ++ (joined (zeroBytes ∷ oneBytes ∷ zeroBytes ∷ oneBytes ∷ zeroBytes ∷ zeroBytes ∷ zeroBytes ∷ oneBytes ∷ zeroBytes ∷ zeroBytes ∷ []) ++ (32 ∷ 48 ∷ 10 ∷ []))
 
 abbrev pub ExamplePrinted : Type 0
 ExamplePrinted = answerOf example ≡ countBytes ++ regionBytes

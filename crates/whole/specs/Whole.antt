@@ -18,7 +18,7 @@ use Rattle.whole.specs.Refusals.{Numbered, Faultless, Fault}
 pub data Printed (s : List ℕ) : Type 0 where
   refused : (n place : ℕ) → Numbered n place → Fault s n place → answerOf s ≡ refusalLine n place → Printed s
   reported : (q : Question) → walkOf s ≡ walked q → Faultless q → (o : Reporting) (r : Reports (searchFor q) (sizes lent) o)
-      → answerOf s ≡ countLine (r .word) (r .counts) (r .regions) ++ regionLines (r .regions) (o .slice)
+      → answerOf s ≡ countLine (r .word) (r .counts) (r .regions) ++ regionLines (r .regions) (o .output .regions) (o .output .marks)
       → (r .word ≡ Complete → Clear (searchFor q) (sizes lent)) → Printed s
 
 abbrev pub Whole : Type 0

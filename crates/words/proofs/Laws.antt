@@ -17,8 +17,9 @@ use Rattle.states.proofs.Tests.{and-first, and-second}
 use Rattle.verdicts.specs.declared.Verdict.{Verdict}
 use Rattle.verdicts.specs.declared.Verdict.the-variants.{Settled, Split, Unseparated}
 use Rattle.states.specs.declared.State.{State}
+use Rattle.terms.specs.declared.Terms.{Terms}
 use Rattle.verdicts.specs.Verdicts.{verdictNumber}
-use Rattle.words.specs.Words.{flagOf, noBits, wordsOf, movedWords, stateOf, countsFit, isWidth, isState, Within, verdictOf}
+use Rattle.words.specs.Words.{flagOf, lastWords, wordsOf, movedWords, wordTerms, stateOf, countsFit, isWidth, turnsFit, isState, Within, verdictOf}
 
 -- ---- the tests of the words, as facts on numbers
 and-both : (a b : Bool) → a ≡ true → b ≡ true → a && b ≡ true
@@ -79,7 +80,10 @@ pub written-state : (ws : List ℕ) (x : State) → countsFit (wordsOf x) ≡ tr
 unfolding every
 written-state ws x e f g =
     and-both (leb 23 (length (patch ws 0 (wordsOf x)))) _ (le-leb 23 (length (patch ws 0 (wordsOf x))) (omega arith))
-    (and-both (countsFit (wordsOf x)) _ e (and-both (isWidth (x .width1)) _ f (and-both (isWidth (x .width2)) true g refl)))
+    (and-both (countsFit (wordsOf x)) _ e
+    (and-both (isWidth (x .width1)) _ f
+    (and-both (isWidth (x .width2)) _ g
+    (and-both (turnsFit (wordsOf x)) true (and-both (leb (flagOf (x .terms .turn1)) 1) _ (flag-fits (x .terms .turn1)) (flag-fits (x .terms .turn2))) refl))))
 
 -- ---- words written
 pub words-turn : {s : List ℕ} (ws vs : List ℕ) (i : ℕ) → s ≡ paste ws 0 vs i → i < length ws → i < length vs → set s i (getD vs i 0) ≡ paste ws 0 vs (i + 1)
@@ -87,9 +91,13 @@ words-turn {s} ws vs i e h k =
     let z : 0 + i ≡ i = omega arith in
     subst (λ (j : ℕ). set s j (getD vs i 0) ≡ paste ws 0 vs (i + 1)) z (copy-turn ws 0 vs i e (subst (λ (j : ℕ). j < length ws) (sym z) h) k)
 
-pub words-are : (x : State) {a b c d : ℕ} → a ≡ x .width1 → b ≡ x .width2 → c ≡ flagOf (x .stopped) → d ≡ toBits binary64 (x .gap)
-    → x .pairs ∷ x .quota ∷ x .waiting ∷ x .visits ∷ x .splits ∷ x .unspent ∷ x .settled ∷ x .given ∷ a ∷ b ∷ c ∷ d ∷ noBits ≡ wordsOf x
-words-are x e f g h = λ i. x .pairs ∷ x .quota ∷ x .waiting ∷ x .visits ∷ x .splits ∷ x .unspent ∷ x .settled ∷ x .given ∷ e i ∷ f i ∷ g i ∷ h i ∷ noBits
+pub words-are : (x : State) {a b c d : ℕ} {l : List ℕ} → a ≡ x .width1 → b ≡ x .width2 → c ≡ flagOf (x .stopped) → d ≡ toBits binary64 (x .gap)
+    → l ≡ lastWords (x .terms) → x .pairs ∷ x .quota ∷ x .waiting ∷ x .visits ∷ x .splits ∷ x .unspent ∷ x .settled ∷ x .given ∷ a ∷ b ∷ c ∷ d ∷ l ≡ wordsOf x
+words-are x e f g h k = λ i. x .pairs ∷ x .quota ∷ x .waiting ∷ x .visits ∷ x .splits ∷ x .unspent ∷ x .settled ∷ x .given ∷ e i ∷ f i ∷ g i ∷ h i ∷ k i
+
+pub last-words : (t : Terms) {a b c d e f : ℕ} → a ≡ flagOf (t .turn1) → b ≡ flagOf (t .turn2) → c ≡ toBits binary64 (t .lo1) → d ≡ toBits binary64 (t .hi1)
+    → e ≡ toBits binary64 (t .lo2) → f ≡ toBits binary64 (t .hi2) → 0 ∷ 0 ∷ 0 ∷ 0 ∷ 0 ∷ a ∷ b ∷ c ∷ d ∷ e ∷ f ∷ [] ≡ lastWords t
+last-words t g h k l m n = λ i. 0 ∷ 0 ∷ 0 ∷ 0 ∷ 0 ∷ g i ∷ h i ∷ k i ∷ l i ∷ m i ∷ n i ∷ []
 
 -- what holds of eleven words and what follows them holds of every list that is long enough
 eleven : (P : List ℕ → Type 0) → ((a b c d e f g h i j k : ℕ) (l : List ℕ) → P (a ∷ b ∷ c ∷ d ∷ e ∷ f ∷ g ∷ h ∷ i ∷ j ∷ k ∷ l))
@@ -139,9 +147,15 @@ flag-back : (b : Bool) → eqb (flagOf b) 1 ≡ b
 flag-back true = refl
 flag-back false = refl
 
--- a state whose gap was read from word 11
-abbrev pub stateWith : List ℕ → Float → State
-stateWith ws gap = record {
+-- the seams whose ends were read from words 19 to 22
+pub terms-are : (ws : List ℕ) {a b c d : Float} → a ≡ ofBits binary64 (getD ws 19 0) → b ≡ ofBits binary64 (getD ws 20 0) → c ≡ ofBits binary64 (getD ws 21 0)
+    → d ≡ ofBits binary64 (getD ws 22 0)
+    → _≡_ {A = Terms} (record { turn1 = eqb (getD ws 17 0) 1; turn2 = eqb (getD ws 18 0) 1; lo1 = a; hi1 = b; lo2 = c; hi2 = d }) (wordTerms ws)
+terms-are ws e f g h = λ i. record { turn1 = eqb (getD ws 17 0) 1; turn2 = eqb (getD ws 18 0) 1; lo1 = e i; hi1 = f i; lo2 = g i; hi2 = h i }
+
+-- a state whose gap was read from word 11, and its seams from words 17 to 22
+abbrev pub stateWith : List ℕ → Float → Terms → State
+stateWith ws gap t = record {
   pairs = getD ws 0 0;
   quota = getD ws 1 0;
   waiting = getD ws 2 0;
@@ -154,14 +168,16 @@ stateWith ws gap = record {
   width2 = getD ws 9 0;
   gap = gap;
   stopped = eqb (getD ws 10 0) 1;
+  terms = t;
 }
 
-pub state-is : (ws : List ℕ) {g : Float} → g ≡ ofBits binary64 (getD ws 11 0) → stateWith ws g ≡ stateOf ws
-state-is ws e = ap (stateWith ws) e
+pub state-is : (ws : List ℕ) {g : Float} {t : Terms} → g ≡ ofBits binary64 (getD ws 11 0) → t ≡ wordTerms ws → stateWith ws g t ≡ stateOf ws
+state-is ws e f = λ i. stateWith ws (e i) (f i)
 
--- the words of an open state, whose gap is a double, are read as that state
-pub reads-back : (ws : List ℕ) (x : State) → T (fits binary64 (x .gap)) → stateOf (patch ws 0 (wordsOf x)) ≡ x
-reads-back ws x f = λ i. record {
+-- the words of an open state, whose gap and asked ends are doubles, are read as that state
+pub reads-back : (ws : List ℕ) (x : State) → T (fits binary64 (x .gap)) → T (fits binary64 (x .terms .lo1)) → T (fits binary64 (x .terms .hi1))
+    → T (fits binary64 (x .terms .lo2)) → T (fits binary64 (x .terms .hi2)) → stateOf (patch ws 0 (wordsOf x)) ≡ x
+reads-back ws x f a b c d = λ i. record {
   pairs = x .pairs;
   quota = x .quota;
   waiting = x .waiting;
@@ -174,15 +190,23 @@ reads-back ws x f = λ i. record {
   width2 = x .width2;
   gap = ofBits-toBits binary64 (x .gap) f i;
   stopped = flag-back (x .stopped) i;
+  terms = record {
+    turn1 = flag-back (x .terms .turn1) i;
+    turn2 = flag-back (x .terms .turn2) i;
+    lo1 = ofBits-toBits binary64 (x .terms .lo1) a i;
+    hi1 = ofBits-toBits binary64 (x .terms .hi1) b i;
+    lo2 = ofBits-toBits binary64 (x .terms .lo2) c i;
+    hi2 = ofBits-toBits binary64 (x .terms .hi2) d i;
+  };
 }
 
 -- moved words are read as the state that moved, where what stays is its own
 pub reads-moved : (ws : List ℕ) (x : State) → 23 ≤ length ws → getD ws 0 0 ≡ x .pairs → getD ws 1 0 ≡ x .quota → getD ws 8 0 ≡ x .width1
-    → getD ws 9 0 ≡ x .width2 → ofBits binary64 (getD ws 11 0) ≡ x .gap → stateOf (movedWords ws x) ≡ x
+    → getD ws 9 0 ≡ x .width2 → ofBits binary64 (getD ws 11 0) ≡ x .gap → wordTerms ws ≡ x .terms → stateOf (movedWords ws x) ≡ x
 reads-moved ws x n =
     eleven (λ (l : List ℕ). getD l 0 0 ≡ x .pairs → getD l 1 0 ≡ x .quota → getD l 8 0 ≡ x .width1 → getD l 9 0 ≡ x .width2
-    → ofBits binary64 (getD l 11 0) ≡ x .gap → stateOf (movedWords l x) ≡ x)
-    (λ _ _ _ _ _ _ _ _ _ _ _ _ p q v w g i. record {
+    → ofBits binary64 (getD l 11 0) ≡ x .gap → wordTerms l ≡ x .terms → stateOf (movedWords l x) ≡ x)
+    (λ _ _ _ _ _ _ _ _ _ _ _ _ p q v w g t i. record {
       pairs = p i;
       quota = q i;
       waiting = x .waiting;
@@ -195,6 +219,7 @@ reads-moved ws x n =
       width2 = w i;
       gap = g i;
       stopped = flag-back (x .stopped) i;
+      terms = t i;
     }) ws (omega arith)
 
 -- a verdict that own verdict answers is the one that a step takes

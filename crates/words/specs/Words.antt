@@ -10,28 +10,45 @@ use Rattle.lists.specs.Tests.{every}
 use Rattle.verdicts.specs.declared.Verdict.{Verdict}
 use Rattle.verdicts.specs.declared.Verdict.the-variants.{Settled, Split, Unseparated}
 use Rattle.states.specs.declared.State.{State}
+use Rattle.terms.specs.declared.Terms.{Terms}
 
 -- ---- a state as 23 words: 0 to 7 pairs, quota, waiting, visits, splits, unspent, settled, given; 8, 9 the widths; 10 stopped; 11 the gap's bits;
--- 12 to 22 have no bits: they are kept for the nodes settled by box, plane and line, for the edition and its joint length, for whether each line is asked
--- for a whole turn, and for the asked ends
+-- 12 to 16 have no bits: they are kept for the nodes settled by box, plane and line, and for the edition and its joint length; 17, 18 whether each line is
+-- asked for a whole turn; 19 to 22 the bits of the asked ends
 
 abbrev pub flagOf : Bool → ℕ
 flagOf true = 1
 flagOf false = 0
 
--- words 12 to 22: none has bits, so each is 0
-abbrev pub noBits : List ℕ
-noBits = 0 ∷ 0 ∷ 0 ∷ 0 ∷ 0 ∷ 0 ∷ 0 ∷ 0 ∷ 0 ∷ 0 ∷ 0 ∷ []
+-- words 17 to 22
+abbrev pub termWords : Terms → List ℕ
+termWords t =
+    flagOf (t .turn1) ∷ flagOf (t .turn2) ∷ toBits binary64 (t .lo1) ∷ toBits binary64 (t .hi1) ∷ toBits binary64 (t .lo2) ∷ toBits binary64 (t .hi2) ∷ []
+
+-- words 12 on: 12 to 16 have no bits, so each is 0
+abbrev pub lastWords : Terms → List ℕ
+lastWords t = 0 ∷ 0 ∷ 0 ∷ 0 ∷ 0 ∷ termWords t
 
 -- all words, as the opening writes them (`state_words`)
 abbrev pub wordsOf : State → List ℕ
 wordsOf x =
     x .pairs ∷ x .quota ∷ x .waiting ∷ x .visits ∷ x .splits ∷ x .unspent ∷ x .settled ∷ x .given ∷ x .width1 ∷ x .width2
-    ∷ flagOf (x .stopped) ∷ toBits binary64 (x .gap) ∷ noBits
+    ∷ flagOf (x .stopped) ∷ toBits binary64 (x .gap) ∷ lastWords (x .terms)
 
 -- the words that a step moves, 2 to 7 and 10, each in its place; the others stay (`move_state`)
 abbrev pub movedWords : List ℕ → State → List ℕ
 movedWords ws x = set (patch ws 2 (x .waiting ∷ x .visits ∷ x .splits ∷ x .unspent ∷ x .settled ∷ x .given ∷ [])) 10 (flagOf (x .stopped))
+
+-- every pattern of words 19 to 22 is an end (`read_terms`)
+abbrev pub wordTerms : List ℕ → Terms
+wordTerms ws = record {
+  turn1 = eqb (getD ws 17 0) 1;
+  turn2 = eqb (getD ws 18 0) 1;
+  lo1 = ofBits binary64 (getD ws 19 0);
+  hi1 = ofBits binary64 (getD ws 20 0);
+  lo2 = ofBits binary64 (getD ws 21 0);
+  hi2 = ofBits binary64 (getD ws 22 0);
+}
 
 -- the state that words are; every pattern of word 11 is a gap (`read_state`)
 abbrev pub stateOf : List ℕ → State
@@ -48,6 +65,7 @@ stateOf ws = record {
   width2 = getD ws 9 0;
   gap = ofBits binary64 (getD ws 11 0);
   stopped = eqb (getD ws 10 0) 1;
+  terms = wordTerms ws;
 }
 
 -- ---- which words are a state's
@@ -72,9 +90,13 @@ isWidth n = leb 2 n && leb n 26
 abbrev pub areZero : List ℕ → Bool
 areZero ws = every (λ n. eqb n 0) ws
 
+-- whether each line is asked for a whole turn: 0 or 1 (`turns_fit`)
+abbrev pub turnsFit : List ℕ → Bool
+turnsFit ws = leb (getD ws 17 0) 1 && leb (getD ws 18 0) 1
+
 -- 23 words or more, each within its bits (`is_state`)
 abbrev pub isState : List ℕ → Bool
-isState ws = leb 23 (length ws) && (countsFit ws && (isWidth (getD ws 8 0) && (isWidth (getD ws 9 0) && areZero (part 12 11 ws))))
+isState ws = leb 23 (length ws) && (countsFit ws && (isWidth (getD ws 8 0) && (isWidth (getD ws 9 0) && (turnsFit ws && areZero (part 12 5 ws)))))
 
 -- the same as facts on numbers, for `read_state`
 pub record Within (ws : List ℕ) : Type 0 where

@@ -5,8 +5,9 @@ ghost use Prim.Native.Nat.{_≤_};
 ghost use lib.ListN.{length};
 ghost use Rattle.lists.specs.Parts.{patch};
 ghost use Rattle.verdicts.specs.Verdicts.{verdictNumber};
-ghost use Rattle.words.specs.Words.{flagOf, wordsOf, movedWords, stateOf, countsFit, isWidth, areZero, isState, Within, verdictOf};
+ghost use Rattle.words.specs.Words.{flagOf, wordsOf, movedWords, wordTerms, stateOf, countsFit, isWidth, areZero, turnsFit, isState, Within, verdictOf};
 use states::State;
+use terms::Terms;
 use verdicts::Verdict;
 
 // ---- which words are a state's
@@ -63,7 +64,17 @@ fn are_zero(w: &[u64]) -> bool
     true
 }
 
-// Whether the words are a state's: 23 or more, each within its bits. Words 12 to 22 have none.
+fn turns_fit(w: &[u64]) -> bool
+    requires { ⌜ 23 ≤ length (now w) ⌝ }
+    ensures { λ r. ⌜ r ≡ turnsFit (now (w .entry)) ⌝ }
+{
+    if w[17] > 1 {
+        return false;
+    }
+    w[18] <= 1
+}
+
+// Whether the words are a state's: 23 or more, each within its bits. Words 12 to 16 have none.
 pub fn is_state(w: &[u64]) -> bool
     ensures { λ r. ⌜ r ≡ isState (now (w .entry)) ⌝ }
 {
@@ -79,10 +90,27 @@ pub fn is_state(w: &[u64]) -> bool
     if !is_width(w[9]) {
         return false;
     }
-    are_zero(&w[12..23])
+    if !turns_fit(w) {
+        return false;
+    }
+    are_zero(&w[12..17])
 }
 
 // ---- a state from words, and its words
+
+fn read_terms(w: &[u64]) -> Terms
+    requires { ⌜ 23 ≤ length (now w) ⌝ }
+    ensures { λ r. ⌜ r ≡ wordTerms (now (w .entry)) ⌝ }
+{
+    Terms {
+        turn1: w[17] == 1,
+        turn2: w[18] == 1,
+        lo1: patterns::float(w[19]),
+        hi1: patterns::float(w[20]),
+        lo2: patterns::float(w[21]),
+        hi2: patterns::float(w[22]),
+    }
+}
 
 pub fn read_state(w: &[u64]) -> State
     requires { ⌜ Within (now w) ⌝ }
@@ -101,6 +129,7 @@ pub fn read_state(w: &[u64]) -> State
         width2: w[9] as u8,
         gap: patterns::float(w[11]),
         stopped: w[10] == 1,
+        terms: read_terms(w),
     }
 }
 
@@ -140,12 +169,12 @@ fn state_words(st: State) -> [u64; 23]
         0,
         0,
         0,
-        0,
-        0,
-        0,
-        0,
-        0,
-        0,
+        flag(st.terms.turn1),
+        flag(st.terms.turn2),
+        patterns::pattern(st.terms.lo1),
+        patterns::pattern(st.terms.hi1),
+        patterns::pattern(st.terms.lo2),
+        patterns::pattern(st.terms.hi2),
     ]
 }
 
@@ -171,7 +200,7 @@ pub fn put_state(st: State, w: &mut [u64])
     put_words(&words, w);
 }
 
-// The words that a step moves: P, S, the widths and the gap stay.
+// The words that a step moves: P, S, the widths, the gap, the whole turns and the asked ends stay.
 pub fn move_state(st: State, w: &mut [u64])
     requires { ⌜ 23 ≤ length (now w) ⌝ }
     ensures { λ _. ⌜ now (w .exit) ≡ movedWords (now (w .entry)) st ⌝ }

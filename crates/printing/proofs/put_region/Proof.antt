@@ -13,6 +13,12 @@ put-bytes-requires c κs = search needs
 put-floats-requires : tie.Need-put-floats-requires
 put-floats-requires c κs = search needs
 
+slice-aggregate-put-count : tie.Need-slice-aggregate-put-count
+slice-aggregate-put-count c = search needs
+
+put-count-requires : tie.Need-put-count-requires
+put-count-requires c κs = search needs
+
 slice-aggregate-put-bytes-2 : tie.Need-slice-aggregate-put-bytes-2
 slice-aggregate-put-bytes-2 c = search needs
 
@@ -24,10 +30,12 @@ same-length c = search needs
 
 returns : tie.Need-returns
 returns c =
-    let args = c .before .before .before .before .before .before .before .before .before .before .before .before .before .before .before .before .args in
-    region-is (args .out .now) (args .at) (args .region .now) (search needs) (search needs)
-    (c .before .before .before .before .before .before .before .before .before .before .before .put-bytes .ensures)
-    (c .before .before .before .before .before .before .before .put-floats .ensures) (c .before .before .put-bytes2 .ensures)
+    let count = c .before .before .before .before .before .before .before in
+    let floats = count .before .before .before .before .before in
+    let bytes = floats .before .before .before .before in
+    let args = bytes .before .before .before .before .before .args in
+    region-is (args .out .now) (args .at) (args .region .now) (args .mark) (search needs) (search needs)
+    (bytes .put-bytes .ensures) (floats .put-floats .ensures) (count .put-count .ensures) (c .before .before .put-bytes2 .ensures)
 
 pub put-region-spec : {M : Type 1} → statement M
 put-region-spec =
@@ -36,6 +44,8 @@ put-region-spec =
     slice-aggregate-put-bytes
     put-bytes-requires
     put-floats-requires
+    slice-aggregate-put-count
+    put-count-requires
     slice-aggregate-put-bytes-2
     put-bytes-requires-2
     same-length

@@ -41,6 +41,19 @@ returns-4 c =
     (passed (sym (c .before .before .before .before .is-width .ensures) ∙ not-false _ (c .before .before .before .if3 .left))
     (failed _ (sym (c .before .is-width2 .ensures) ∙ not-true _ (c .if4 .taken)))))
 
+turns-fit-requires : tie.Need-turns-fit-requires
+turns-fit-requires c κs = search needs
+
+returns-5 : tie.Need-returns-5
+returns-5 c =
+    let d = c .before .before .before .before .before in
+    let b = d .before .before .before in
+    passed (le-leb _ _ (b .before .before .if1 .left))
+    (passed (sym (b .before .counts-fit .ensures) ∙ not-false _ (b .if2 .left))
+    (passed (sym (d .before .is-width .ensures) ∙ not-false _ (d .if3 .left))
+    (passed (sym (c .before .before .before .is-width2 .ensures) ∙ not-false _ (c .before .before .if4 .left))
+    (failed _ (sym (c .before .turns-fit .ensures) ∙ not-true _ (c .if5 .taken))))))
+
 sub-are-zero : tie.Need-sub-are-zero
 sub-are-zero c = search needs
 
@@ -53,14 +66,16 @@ part-are-zero-end c = search needs
 are-zero-requires : tie.Need-are-zero-requires
 are-zero-requires c κs = search needs
 
-returns-5 : tie.Need-returns-5
-returns-5 c =
-    let b = c .before .before .before .before .before .before .before .before in
+returns-6 : tie.Need-returns-6
+returns-6 c =
+    let d = c .before .before .before .before .before .before .before in
+    let b = d .before .before .before in
     passed (le-leb _ _ (b .before .before .if1 .left))
     (passed (sym (b .before .counts-fit .ensures) ∙ not-false _ (b .if2 .left))
-    (passed (sym (c .before .before .before .before .before .before .is-width .ensures) ∙ not-false _ (c .before .before .before .before .before .if3 .left))
-    (passed (sym (c .before .before .before .is-width2 .ensures) ∙ not-false _ (c .before .before .if4 .left))
-    (c .are-zero .ensures))))
+    (passed (sym (d .before .is-width .ensures) ∙ not-false _ (d .if3 .left))
+    (passed (sym (c .before .before .before .before .before .is-width2 .ensures) ∙ not-false _ (c .before .before .before .before .if4 .left))
+    (passed (sym (c .before .before .before .turns-fit .ensures) ∙ not-false _ (c .before .before .if5 .left))
+    (c .are-zero .ensures)))))
 
 pub is-state-spec : {M : Type 1} → statement M
 is-state-spec =
@@ -75,8 +90,10 @@ is-state-spec =
     shared-slice-read-is-width-2
     is-width-requires-2
     returns-4
+    turns-fit-requires
+    returns-5
     sub-are-zero
     part-are-zero-start
     part-are-zero-end
     are-zero-requires
-    returns-5)
+    returns-6)

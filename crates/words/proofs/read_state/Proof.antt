@@ -70,10 +70,13 @@ float-requires c κs = search needs
 shared-slice-read-t35 : tie.Need-shared-slice-read-t35
 shared-slice-read-t35 c = search needs
 
+read-terms-requires : tie.Need-read-terms-requires
+read-terms-requires c κs = search needs
+
 returns : tie.Need-returns
 returns c =
-    let args = c .before .before .before .before .before .before .before .before .before .before .before .before .before .before .args in
-    state-is (args .w .now) (c .before .float .ensures)
+    let args = c .before .before .before .before .before .before .before .before .before .before .before .before .before .before .before .args in
+    state-is (args .w .now) (c .before .before .float .ensures) (c .read-terms .ensures)
 
 pub read-state-spec : {M : Type 1} → statement M
 read-state-spec =
@@ -101,4 +104,5 @@ read-state-spec =
     shared-slice-read-float
     float-requires
     shared-slice-read-t35
+    read-terms-requires
     returns)

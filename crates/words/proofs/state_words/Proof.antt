@@ -1,7 +1,7 @@
 -- A state's words, one an element. Assumes nothing.
 use borrow.Author.Needs.{needs}
 use native.Mathlib.Omega.{arith}
-use Rattle.words.proofs.Laws.{words-are, counts-fit}
+use Rattle.words.proofs.Laws.{words-are, last-words, counts-fit}
 use Rattle.words.proofs.state_words.Statement.{statement}
 use Rattle.words.proofs.state_words.Tie as tie
 
@@ -38,11 +38,33 @@ flag-requires c κs = search needs
 pattern-requires : tie.Need-pattern-requires
 pattern-requires c κs = search needs
 
+flag-requires-2 : tie.Need-flag-requires-2
+flag-requires-2 c κs = search needs
+
+flag-requires-3 : tie.Need-flag-requires-3
+flag-requires-3 c κs = search needs
+
+pattern-requires-2 : tie.Need-pattern-requires-2
+pattern-requires-2 c κs = search needs
+
+pattern-requires-3 : tie.Need-pattern-requires-3
+pattern-requires-3 c κs = search needs
+
+pattern-requires-4 : tie.Need-pattern-requires-4
+pattern-requires-4 c κs = search needs
+
+pattern-requires-5 : tie.Need-pattern-requires-5
+pattern-requires-5 c κs = search needs
+
 returns : tie.Need-returns
 returns c =
-    let st = c .before .before .before .before .before .before .before .before .before .before .before .args .st in
-    let k = c .before .before .before .before .before .before .before .before .before .before .struct-known .given in (
-      words-are st (c .before .before .before .wide .ensures) (c .before .before .wide2 .ensures) (c .before .flag .ensures) (c .pattern .ensures),
+    let p = c .before .before .before .before .before .before in
+    let w = p .before .before .before in
+    let st = w .before .before .before .before .before .before .before .before .args .st in
+    let k = w .before .before .before .before .before .before .before .struct-known .given in (
+      words-are st (w .wide .ensures) (p .before .before .wide2 .ensures) (p .before .flag .ensures) (p .pattern .ensures)
+          (last-words (st .terms) (c .before .before .before .before .before .flag2 .ensures) (c .before .before .before .before .flag3 .ensures)
+          (c .before .before .before .pattern2 .ensures) (c .before .before .pattern3 .ensures) (c .before .pattern4 .ensures) (c .pattern5 .ensures)),
       counts-fit st (omega (arith, k .0)) (omega (arith, k .1 .0)) (omega (arith, k .1 .1 .0)) (omega (arith, k .1 .1 .1 .1 .0))
           (omega (arith, k .1 .1 .1 .1 .1 .0)) (omega (arith, k .1 .1 .1 .1 .1 .1 .0)) (omega (arith, k .1 .1 .1 .1 .1 .1 .1 .0)),
     )
@@ -62,4 +84,10 @@ state-words-spec =
     wide-requires-2
     flag-requires
     pattern-requires
+    flag-requires-2
+    flag-requires-3
+    pattern-requires-2
+    pattern-requires-3
+    pattern-requires-4
+    pattern-requires-5
     returns)

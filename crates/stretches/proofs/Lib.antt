@@ -1,0 +1,3 @@
+pub mod Laws
+pub mod Marked
+pub mod Cases
