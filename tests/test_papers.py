@@ -49,6 +49,10 @@ for paper in ["README.md", *sorted(str(p.relative_to(ROOT)) for p in ROOT.glob("
     text = (ROOT / paper).read_text()
     if re.search(r"https?://", text):
         bad.append(f"{paper} names a host")
+# halving works in its two slots (document 02, M-102): the functions that halve make no array, and nothing but the net slices is lent to them
+for name in ("nets", "nodes"):
+    if re.search(r"\[[^\]\n]*;[^\]\n]*\]", (ROOT / f"crates/{name}/src/lib.rt").read_text()):
+        bad.append(f"crates/{name}/src/lib.rt makes an array")
 # the longest answer: its definition, the code's buffers and the header
 length = {n: int(v) for n, v in re.findall(r"^(countsLength|regionLength|lentRegions) = (\d+)$", texts, re.M)}
 longest = length["countsLength"] + length["lentRegions"] * length["regionLength"]

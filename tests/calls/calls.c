@@ -297,11 +297,31 @@ static uint32_t number_of(Verdict v)
     return n;
 }
 
+/* Document 02, M-102: a halving's two slots follow from the net alone, whatever
+   the free slot held. Each slot above the top node gets NaN, infinities and
+   random bits. */
+static int filling;
+static uint64_t filled_steps;
+
+static void fill_free(const State *s)
+{
+    for (int i = 0; i < 2; i++)
+        for (size_t j = (size_t)s->waiting * 4 * s->width[i]; j < cap[NETS1 + i]; j++) {
+            uint64_t bits = chance();
+            double x = NAN;
+            if (one_in(3)) x = bits & 1 ? INFINITY : -INFINITY;
+            else if (one_in(2)) memcpy(&x, &bits, sizeof x);
+            lib.f[NETS1 + i][j] = model.f[NETS1 + i][j] = x;
+        }
+    filled_steps++;
+}
+
 static void do_step(State *s, Verdict v)
 {
     int kind = SETTLE + (int)v, no, was_top;
     State old = *s;
     Lent *a = &lent[0], *b = &lent[1];
+    if (filling) fill_free(s);
     choose_lent(s);
     hand_words(s);
     was_top = s->waiting > 0 && s->waiting <= depth_cap ? model.depths[s->waiting - 1] : 0;
@@ -701,6 +721,7 @@ static void one_list(uint64_t least_calls, uint64_t most_calls)
     cap[RAW] = cap[REPORT] = big ? 60000 : one_in(3) ? 16000 : 6000;
     mark_cap = cap[RAW] / 10;
     fill_worlds(wild && forging);
+    filling = !big && one_in(3);
     call_number = 0;
     open_until(&s, 12);
     kept = s;
@@ -775,6 +796,7 @@ int main(int argc, char **argv)
     }
     printf("halved first %lu, second %lu; given up at depth 64 %lu; stopped %lu; regions raw %lu, merged %lu\n",
            (unsigned long)halved[0], (unsigned long)halved[1], (unsigned long)deep, (unsigned long)stopped, (unsigned long)raw_regions, (unsigned long)merged_regions);
+    printf("steps with every free slot of the nets filled %lu\n", (unsigned long)filled_steps);
     printf("openings with a whole turn %lu; reports with one %lu; with a group %lu, and of a forged state %lu\n",
            (unsigned long)whole_openings, (unsigned long)turned, (unsigned long)groups[0], (unsigned long)groups[1]);
     printf("differences %lu\n", (unsigned long)differences);
