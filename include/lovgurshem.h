@@ -29,7 +29,8 @@
  * refusal: 4 to 14 and 22 a line's fault, 15 to 18 the question's, 19 a slice
  * that is shorter than needed or a state that is no search's, 20 a search that
  * has ended, 21 one that hasn't. A line's fault, range or breaks (4 to 15, 18
- * and 22) have 256 times the line, 1 or 2, added. They are tested in this order:
+ * and 22) have 256 times the line, 1 or 2, added. 1 to 18 and from 22 on leave
+ * the words and every slice as they were. The numbers are tested in this order:
  *   open     4 to 14 of the first line, with 22 of a closed one after 7; the
  *            same of the second; 15 to 18; 19 for the state's words and the
  *            pieces; 19 for the rest

@@ -49,14 +49,17 @@ for paper in ["README.md", *sorted(str(p.relative_to(ROOT)) for p in ROOT.glob("
     text = (ROOT / paper).read_text()
     if re.search(r"https?://", text):
         bad.append(f"{paper} names a host")
-# halving works in its two slots (document 02, M-102): the functions that halve make no array, and nothing but the net slices is lent to them
+# halving works in its two slots (document 02, M-102): it makes and takes no array, and is lent the net slice alone
+for signature in ("fn mean_round(s: &mut [f64], m: usize)\n", "pub fn halve_slot(s: &mut [f64], k: usize, w: usize)\n"):
+    if signature not in (ROOT / "crates/nets/src/lib.rt").read_text():
+        bad.append(f"crates/nets/src/lib.rt has no {signature.strip()}")
 for name in ("nets", "nodes"):
-    if re.search(r"\[[^\]\n]*;[^\]\n]*\]", (ROOT / f"crates/{name}/src/lib.rt").read_text()):
-        bad.append(f"crates/{name}/src/lib.rt makes an array")
+    if re.search(r"\[[^\]\n]*;[^\]\n]*\]|scratch\(", (ROOT / f"crates/{name}/src/lib.rt").read_text()):
+        bad.append(f"crates/{name}/src/lib.rt makes or takes an array")
 # the longest answer: its definition, the code's buffers and the header
 length = {n: int(v) for n, v in re.findall(r"^(countsLength|regionLength|lentRegions) = (\d+)$", texts, re.M)}
 longest = length["countsLength"] + length["lentRegions"] * length["regionLength"]
-for file, form in (("include/lovgurshem.h", "#define LOVGURSHEM_ANSWER %d\n"), ("crates/clearance/src/main.rt", "[0u8; %d]"), ("crates/sheet/src/lib.rt", "out.len() < %d ")):
+for file, form in (("include/lovgurshem.h", "#define LOVGURSHEM_ANSWER %d\n"), ("crates/clearance/src/main.rt", "[0u8; %d]"), ("crates/sheet/src/lib.rt", "out.len() < %d "), ("examples/rust/main.rs", "[0u8; %d]")):
     if form % longest not in (ROOT / file).read_text():
         bad.append(f"{file} has not {longest} bytes for the longest answer")
 for line in bad:

@@ -44,7 +44,7 @@ mod sys {
 
 /// The answer to a sheet, as printed.
 fn answer(sheet: &[u8]) -> Vec<u8> {
-    let mut out = vec![0u8; 162_368];
+    let mut out = vec![0u8; 162368];
     let n = unsafe { sys::lovgurshem_answer(sheet.as_ptr(), sheet.len(), out.as_mut_ptr(), out.len()) };
     out.truncate(n);
     out

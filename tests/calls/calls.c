@@ -483,6 +483,8 @@ static void spoil_line(Drawn *d)
     }
 }
 
+/* 1 to 18 and from 22 on leave the words and every slice as they were; all are
+   compared in full, whatever is answered. */
 static int do_open(State *s, int spoil)
 {
     static Drawn d[2];

@@ -73,9 +73,10 @@ askings =
     ∷ asking (step Settled shortRaw) (20 ∷ [])
     ∷ asking (own whole) (20 ∷ [])
     ∷ asking (report whole (output (replicate 19 zero64) (replicate 2 0))) (19 ∷ [])
+    ∷ asking (report whole (output (replicate 20 zero64) (replicate 1 0))) (19 ∷ [])
     -- budget; the two halves touch and are one region; a second report says the same
     ∷ asking (report whole (output (replicate 20 zero64) (replicate 2 0))) (1 ∷ 1 ∷ 3 ∷ 1 ∷ 0 ∷ 1 ∷ 1 ∷ 1 ∷ [])
-    ∷ asking (report whole (output (replicate 20 two64) (replicate 2 0))) (1 ∷ 1 ∷ 3 ∷ 1 ∷ 0 ∷ 1 ∷ 1 ∷ 1 ∷ [])
+    ∷ asking (report whole (output (replicate 20 two64) (replicate 2 7))) (1 ∷ 1 ∷ 3 ∷ 1 ∷ 0 ∷ 1 ∷ 1 ∷ 1 ∷ [])
     ∷ []
 
 abbrev pub answered : Opened → Memory → List Answer
@@ -99,3 +100,17 @@ lastOf (a ∷ (b ∷ l)) = lastOf (b ∷ l)
 
 abbrev pub LastSlice : Type 0
 LastSlice = lastOf answers ≡ (zero64 ∷ one64 ∷ zero64 ∷ one64 ∷ zero64 ∷ zero64 ∷ zero64 ∷ two64 ∷ two64 ∷ zero64 ∷ replicate 10 zero64)
+
+-- and its marks: the region's, and behind it what was there
+abbrev pub marksIn : Answer → List ℕ
+marksIn (stepped a) = []
+marksIn (judged a) = []
+marksIn (reported a o) = o .marks
+
+abbrev pub lastMarks : List Answer → List ℕ
+lastMarks [] = []
+lastMarks (a ∷ []) = marksIn a
+lastMarks (a ∷ (b ∷ l)) = lastMarks (b ∷ l)
+
+abbrev pub LastMarks : Type 0
+LastMarks = (lastMarks answers ≡ 0 ∷ 7 ∷ [])

@@ -1,7 +1,7 @@
 -- Document 01's starred lines as one list of cases: roots, the pieces of a line, and whole searches (the opening, the loop with the own verdicts, the report, in as much memory
 -- as they need). A second list has nets with the Rust's bits and the bounds of a line with free ends; last, searches with several pieces. Definitions only.
 use mathlib.Core.Path.{_≡_}
-use mathlib.Core.Bool.{true, false}
+use mathlib.Core.Bool.{Bool, true, false}
 use mathlib.Core.List.{List, [], _∷_, map}
 use Prim.Native.Nat.{ℕ, suc, _*_}
 use lib.ListN.{replicate, take}
@@ -17,6 +17,7 @@ use Rattle.search.specs.declared.Stepped.{Stepped}
 use Rattle.search.specs.declared.Stepped.the-variants.{Next, Ended, NoRoom}
 use Rattle.nodes.specs.Nets.{geometry}
 use Rattle.search.specs.Runs.{runDef}
+use Rattle.questions.specs.Questions.{wholeTurn}
 use Rattle.report.specs.declared.Reported.{Reported}
 use Rattle.report.specs.declared.Reported.the-variants.{Told, Running, NoRoom as ReportNoRoom}
 use Rattle.report.specs.Reports.{Output, output, reportDef}
@@ -371,3 +372,34 @@ OverTheSeam =
       marks = 0 ∷ 0 ∷ [];
       left = zero64 ∷ one64 ∷ zero64 ∷ one64 ∷ three64 ∷ ofBits binary64 0x4010_0000_0000_0000 ∷ zero64 ∷ one64 ∷ [];
     })
+
+-- The same as second line, a turn from inside a side, 0.5 to 4.5, against (4,−1,0) to (4,1,0), across the place where the turn starts and ends: that line's asked ends, no knots.
+abbrev pub SeamInside : Type 0
+SeamInside =
+    let minus = ofBits binary64 0xbff0_0000_0000_0000 in
+    let four = ofBits binary64 0x4010_0000_0000_0000 in
+    let end = ofBits binary64 0x4012_0000_0000_0000 in
+    let u = memory (replicate 528 zero64) (replicate 528 zero64) (replicate 264 zero64) (replicate 66 0) (replicate 20 zero64) in
+    let q : Question = record { line1 = straight four minus four one64; lo1 = zero64; hi1 = one64; line2 = square; lo2 = half64; hi2 = end; gap = zero64; splits = 0 } in
+    let o = openDef q (replicate 8 zero64) (replicate 40 zero64) u in
+    ranFrom 1 (o .answer) (o .memory)
+    ≡ (record {
+      word = 1;
+      counts = 2 ∷ 1 ∷ 0 ∷ 0 ∷ 0 ∷ 2 ∷ 0 ∷ [];
+      regions = floats (
+          0 ∷ 0x3ff0_0000_0000_0000 ∷ 0x4010_0000_0000_0000 ∷ 0x4012_0000_0000_0000 ∷ 0 ∷ 0xbff0_0000_0000_0000 ∷ 0 ∷ 0x4010_0000_0000_0000 ∷ 0x3ff0_0000_0000_0000 ∷ 0 ∷
+          0 ∷ 0x3ff0_0000_0000_0000 ∷ 0x3fe0_0000_0000_0000 ∷ 0x3ff0_0000_0000_0000 ∷ 0x4010_0000_0000_0000 ∷ 0xbff0_0000_0000_0000 ∷ 0 ∷ 0x4020_0000_0000_0000 ∷ 0x3ff0_0000_0000_0000 ∷ 0 ∷ []);
+      marks = 0 ∷ 0 ∷ [];
+      left = zero64 ∷ one64 ∷ half64 ∷ one64 ∷ zero64 ∷ one64 ∷ four ∷ end ∷ [];
+    })
+
+-- ---- whole turns (document 02, M-101), over the knots 0 and 1
+abbrev pub turnOf : Bool → Float → Float → Bool
+turnOf closed lo hi = wholeTurn closed (zero64 ∷ one64 ∷ []) lo hi
+
+-- 0.25 + 2^−53 to 1.25 + 2^−52 is one, as rounded, though lo + 1 rounds to another double than hi; the same of an open line, and 0.25 to an ulp below 1.25, are none
+abbrev pub Turns : Type 0
+Turns =
+    (turnOf true (ofBits binary64 0x3fd0_0000_0000_0002) (ofBits binary64 0x3ff4_0000_0000_0001) ≡ true)
+    × (turnOf false (ofBits binary64 0x3fd0_0000_0000_0002) (ofBits binary64 0x3ff4_0000_0000_0001) ≡ false)
+    × (turnOf true (ofBits binary64 0x3fd0_0000_0000_0000) (ofBits binary64 0x3ff3_ffff_ffff_ffff) ≡ false)

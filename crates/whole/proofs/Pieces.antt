@@ -23,7 +23,7 @@ use Rattle.opening.specs.Opens.{isFine}
 use Rattle.walks.specs.Words.{wordAt, kindOf, countOf, floatAt, floatsFrom}
 use Rattle.walks.specs.Sheets.{Walked, walked, refusedAs, badLength, badCount, sizeOf, partOf, wordStands, weightsOf, lineKind, lineAfter, walkOf}
 use Rattle.whole.specs.Refusals.{Faultless}
-use Rattle.whole.specs.Stretches.{SheetStretches}
+use Rattle.whole.specs.Pieces.{SheetPieces}
 
 abbrev Double : Float → Type 0
 Double x = T (fits binary64 x)
@@ -91,9 +91,9 @@ next : (b : Bool) (a c : AskAnswer) → isFine a ≡ false → isFine (cond b a 
 next true a c h e = absurd (false≢true (sym h ∙ e))
 next false a c h e = (refl, e)
 
-pub sheet-stretches : SheetStretches
+pub sheet-pieces : SheetPieces
 unfolding askWithin
-sheet-stretches s q e f =
+sheet-pieces s q e f =
     let d : Read (walked q) = subst Read e (walk-read s) in
     let one = line-table (q .line1) .1 .1 (f .first) in
     let two = line-table (q .line2) .1 .1 (f .second) in

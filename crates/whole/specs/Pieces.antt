@@ -11,6 +11,6 @@ use Rattle.walks.specs.Sheets.{walked, walkOf}
 use Rattle.whole.specs.Refusals.{Faultless}
 
 -- Of a sheet that isn't refused, each piece of either line, open or closed, lies in one span, and its net is that span's net cut to the piece.
-abbrev pub SheetStretches : Type 0
-SheetStretches = (s : List ℕ) (q : Question) → walkOf s ≡ walked q → Faultless q
+abbrev pub SheetPieces : Type 0
+SheetPieces = (s : List ℕ) (q : Question) → walkOf s ≡ walked q → Faultless q
     → All (OfOneSpan (q .line1)) (pieces1 (searchFor q)) × All (OfOneSpan (q .line2)) (pieces2 (searchFor q))
