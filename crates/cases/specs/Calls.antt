@@ -32,7 +32,7 @@ shortDepths = record { nets1 = 520; nets2 = 520; ranges = 260; depths = 64; raw 
 
 -- an answer in numbers: a refusal's; of a step visits, splits, settled, given, waiting and the allowance unspent; the verdict's; of a report the word's, the counts and how many regions
 abbrev pub said : Answer → List ℕ
-said (stepped (Next x)) = x .tally .visits ∷ x .tally .splits ∷ x .tally .settled ∷ x .tally .given ∷ x .tally .waiting ∷ x .tally .unspent ∷ []
+said (stepped (Next x)) = x .visits ∷ x .splits ∷ x .settled ∷ x .given ∷ x .waiting ∷ x .unspent ∷ []
 said (stepped Ended) = 20 ∷ []
 said (stepped NoRoom) = 19 ∷ []
 said (judged (Is v)) = verdictNumber v ∷ []

@@ -27,10 +27,10 @@ use Rattle.search.specs.Steps.{stepDef, judgeAt, ownDef}
 use Rattle.report.specs.declared.Reported.the-variants.{Told, Running, NoRoom as ReportNoRoom}
 use Rattle.report.specs.Reports.{Output, outRoom, written, reporting, leftRegions, rawAfter, writeReport, reportDef}
 use Rattle.coverage.specs.Calls.{Call, step, own, report, Answer, judged, reported, Outcome, lend, giveBack, call, Ran, runAll, stepOutcome, reportOutcome, backIn}
-use Rattle.opening.specs.Asked.{Asked, shape, pairsOf, start, stateOf, resultOf, netOf1, netOf2, depthOf, rawList, recordsFor}
+use Rattle.opening.specs.Asked.{Asked, shape, pairsOf, start, stateOf, tally, netOf1, netOf2, depthOf, rawList, recordsFor}
 use Rattle.coverage.specs.Rules.{Ruled, lent, suffices, stepRule, testTop, ownRule, heard, reportRule, callRule, RuledAll, ruleAll}
 use Rattle.coverage.specs.Claim.{AllStored}
-use Rattle.coverage.proofs.Refine.{agree-stored, Room, room-of, fits-in, RoomOwn, room-own, start-block, agree-lend, agree-back, lend-back, lend-sizes, back-sizes, Numbers, Held, part1-is, part2-is, flats-length, map-append, length-mapped, raw-more, counts-result, StepSim, unchanged, moved, search, ruleWith, top-depth, is-search, step-sim}
+use Rattle.coverage.proofs.Refine.{agree-stored, Room, room-of, fits-in, RoomOwn, room-own, start-block, agree-lend, agree-back, lend-back, lend-sizes, back-sizes, Numbers, Held, part1-is, part2-is, flats-length, map-append, length-mapped, raw-more, counts-tally, StepSim, unchanged, moved, search, ruleWith, top-depth, is-search, step-sim}
 
 -- ---- between calls
 pub record Inv (q : Asked) (full : Sizes) (m : Search (shape q)) (u : Memory) : Type 0 where
@@ -192,7 +192,7 @@ module _ (q : Asked) (m : Search (shape q)) (w : Memory) (N : Numbers q m) (R : 
   write-sim : (out : Output)
       → StepSim q (reportOutcome (stateOf q m) (writeReport (q .geometry) (stateOf q m) w out))
       (record {
-        answer = reported (Told (wordFor (length (m .given)) (length (m .stack))) (resultOf q m) (length (merged merging (rawList q m))))
+        answer = reported (Told (wordFor (length (m .given)) (length (m .stack))) (tally q m) (length (merged merging (rawList q m))))
             (written (q .terms) (length (m .given) + length (m .stack)) (merged merging (rawList q m)) out);
         search = m;
       })
@@ -200,7 +200,7 @@ module _ (q : Asked) (m : Search (shape q)) (w : Memory) (N : Numbers q m) (R : 
   write-sim out =
       let X = leftRegions (q .geometry) (stateOf q m) (w .nets1) (w .nets2) (w .ranges) (length (m .stack)) in
       moved
-      (λ i. reported (Told (wordFor (length (m .given)) (length (m .stack))) (counts-result q m i) (length (merged merging (raws-are i))))
+      (λ i. reported (Told (wordFor (length (m .given)) (length (m .stack))) (counts-tally q m i) (length (merged merging (raws-are i))))
       (written (q .terms) (length (m .given) + length (m .stack)) (merged merging (raws-are i)) out))
       refl
       (record {
@@ -225,7 +225,7 @@ reportWith q e out m =
     cond (ended (shape q) m)
     (cond (e && outRoom (recordsFor q) out)
     (let raws = rawList q m in
-    reported (Told (wordFor (length (m .given)) (length (m .stack))) (resultOf q m) (length (merged merging raws)))
+    reported (Told (wordFor (length (m .given)) (length (m .stack))) (tally q m) (length (merged merging raws)))
     (written (q .terms) (length (m .given) + length (m .stack)) (merged merging raws) out))
     (reported ReportNoRoom out))
     (reported Running out)
@@ -237,7 +237,7 @@ module _ (q : Asked) (full : Sizes) where
       (writeReport (q .geometry) (stateOf q m) w out) (reporting ReportNoRoom w out)))
       (record {
         answer = cond (enough (needed (stateOf q (start q))) (sizes w) && outRoom (recordsFor q) out)
-            (reported (Told (wordFor (length (m .given)) (length (m .stack))) (resultOf q m) (length (merged merging (rawList q m))))
+            (reported (Told (wordFor (length (m .given)) (length (m .stack))) (tally q m) (length (merged merging (rawList q m))))
             (written (q .terms) (length (m .given) + length (m .stack)) (merged merging (rawList q m)) out))
             (reported ReportNoRoom out);
         search = m;
@@ -250,7 +250,7 @@ module _ (q : Asked) (full : Sizes) where
           → StepSim q (reportOutcome (stateOf q m) (cond (e && b && s) (writeReport (q .geometry) (stateOf q m) w out) (reporting ReportNoRoom w out)))
           (record {
             answer = cond (e && b)
-                (reported (Told (wordFor (length (m .given)) (length (m .stack))) (resultOf q m) (length (merged merging (rawList q m))))
+                (reported (Told (wordFor (length (m .given)) (length (m .stack))) (tally q m) (length (merged merging (rawList q m))))
                 (written (q .terms) (length (m .given) + length (m .stack)) (merged merging (rawList q m)) out))
                 (reported ReportNoRoom out);
             search = m;

@@ -40,7 +40,7 @@ use Rattle.machine.specs.Marks.{Marked, marksOf}
 use Rattle.machine.proofs.Marks.{marked-only}
 use Rattle.stretches.specs.Stretches.{nearAt}
 use Rattle.stretches.proofs.Marked.{region-marks}
-use Rattle.opening.specs.Asked.{Asked, shape, pieces1, pieces2, pairsOf, start, stateOf, resultOf, rawList, netOf1, netOf2, openMemory, recordsFor}
+use Rattle.opening.specs.Asked.{Asked, shape, pieces1, pieces2, pairsOf, start, stateOf, tally, rawList, netOf1, netOf2, openMemory, recordsFor}
 use Rattle.opening.specs.Opens.{searchFor}
 use Rattle.coverage.specs.Calls.{Call, step, own as ownCall, Answer, stepped, reported, Outcome, stepOutcome, reportOutcome}
 use Rattle.coverage.specs.Rules.{Ruled, lent, suffices, sufficesOwn, stepRule, ownRule, heard, callRule, ruleAll}
@@ -192,12 +192,12 @@ module _ (q : Asked) (low : (w : ℕ) (l : List Float) → length l ≡ 4 * w �
 
 -- ---- the word
 told-word : (G : Geometry) (x : State) (u : Memory) (out : Output) (w : Word) (c : Counts) (k : ℕ) → reportDef G x u out .answer ≡ Told w c k
-    → wordFor (x .tally .given) (x .tally .waiting) ≡ w
-told-word G x u out w c k e = go (over (x .tally)) (enough (needed x) (sizes u) && outRoom (recordsOf (x .tally)) out && isSearch x u) e
+    → wordFor (x .given) (x .waiting) ≡ w
+told-word G x u out w c k e = go (over x) (enough (needed x) (sizes u) && outRoom (recordsOf x) out && isSearch x u) e
   where
     go : (a b : Bool)
         → cond {A = Reporting} a (cond b (writeReport G x u out) (reporting ReportNoRoom u out)) (reporting Running u out) .answer ≡ Told w c k
-        → wordFor (x .tally .given) (x .tally .waiting) ≡ w
+        → wordFor (x .given) (x .waiting) ≡ w
     go true true e = cc
     go true false e = absurd (let z : _≡_ {A = ℕ} 0 1 = cc in omega arith)
     go false b e = absurd (let z : _≡_ {A = ℕ} 0 1 = cc in omega arith)
@@ -237,7 +237,7 @@ module _ (q : Asked) (full : Sizes) (room : enough (needed (stateOf q (start q))
     (I : Inv q full m w) (E : T (ended (shape q) m))
     (out : Output) (fits : outRoom (recordsFor q) out ≡ true) where
   told-all : _≡_ {A = Answer} (reported (reportDef (q .geometry) (stateOf q m) w out .answer) (reportDef (q .geometry) (stateOf q m) w out .output))
-      (reported (Told (wordFor (length (m .given)) (length (m .stack))) (resultOf q m) (length (merged merging (rawList q m))))
+      (reported (Told (wordFor (length (m .given)) (length (m .stack))) (tally q m) (length (merged merging (rawList q m))))
       (written (q .terms) (length (m .given) + length (m .stack)) (merged merging (rawList q m)) out))
   told-all =
       let o = reportOutcome (stateOf q m) (reportDef (q .geometry) (stateOf q m) w out) in
@@ -248,10 +248,10 @@ module _ (q : Asked) (full : Sizes) (room : enough (needed (stateOf q (start q))
     where
       go : (a b c : Bool) → T a → b ≡ true → c ≡ true
           → cond {A = Answer} a (cond (b && c) (reported
-          (Told (wordFor (length (m .given)) (length (m .stack))) (resultOf q m) (length (merged merging (rawList q m))))
+          (Told (wordFor (length (m .given)) (length (m .stack))) (tally q m) (length (merged merging (rawList q m))))
           (written (q .terms) (length (m .given) + length (m .stack)) (merged merging (rawList q m)) out)) (reported ReportNoRoom out))
           (reported Running out)
-          ≡ reported (Told (wordFor (length (m .given)) (length (m .stack))) (resultOf q m) (length (merged merging (rawList q m))))
+          ≡ reported (Told (wordFor (length (m .given)) (length (m .stack))) (tally q m) (length (merged merging (rawList q m))))
           (written (q .terms) (length (m .given) + length (m .stack)) (merged merging (rawList q m)) out)
       go true true true t e f = refl
       go true true false t e f = absurd (false≢true f)
@@ -266,12 +266,12 @@ reports-all q full room w I K O E out fits =
     let e = told-all q full room m w I E out fits in
     record {
       word = wordFor (length (m .given)) (length (m .stack));
-      counts = resultOf q m;
+      counts = tally q m;
       regions = length (merged merging (rawList q m));
       told = same-answer _ _ _ _ e;
       good =
           subst
-          (λ (l : Output). GoodReport q m (wordFor (length (m .given)) (length (m .stack))) (resultOf q m) (length (merged merging (rawList q m))) l)
+          (λ (l : Output). GoodReport q m (wordFor (length (m .given)) (length (m .stack))) (tally q m) (length (merged merging (rawList q m))) l)
           (sym (same-out _ _ _ _ e)) (good-report q m out K E);
       pass = all-pass q (m .settled) (K .cleared) O;
     }
@@ -282,7 +282,7 @@ Claims q full x u =
     Ends q full (runDef (q .geometry) x u)
     × ((y : State) → runDef (q .geometry) x u .answer ≡ Next y → (out : Output) (c : Counts) (k : ℕ)
     → reportDef (q .geometry) y (runDef (q .geometry) x u .memory) out .answer ≡ Told Complete c k → Clear q full)
-    × ((y : State) → runDef (q .geometry) x u .answer ≡ Next y → (out : Output) → recordsOf (x .tally) * 10 ≤ length (out .regions) → recordsOf (x .tally) ≤ length (out .marks)
+    × ((y : State) → runDef (q .geometry) x u .answer ≡ Next y → (out : Output) → recordsOf x * 10 ≤ length (out .regions) → recordsOf x ≤ length (out .marks)
     → Reports q full (reportDef (q .geometry) y (runDef (q .geometry) x u .memory) out))
 
 pub same-next : (x y : State) → Next x ≡ Next y → x ≡ y
@@ -297,7 +297,7 @@ module _ (q : Asked) (u : Memory) (F : Fine q) (room : T (enough (needed (stateO
         λ y e out c k r.
             let s = same-next y (stateOf q (looped q (sizes u))) (sym e ∙ L .answer) in
             let w = told-word (q .geometry) y (runDef (q .geometry) (stateOf q (start q)) (openMemory q u) .memory) out Complete c k r in
-            let z = word-exact (length (looped q (sizes u) .given)) (length (looped q (sizes u) .stack)) .0 (subst (λ (x : State). wordFor (x .tally .given) (x .tally .waiting) ≡ Complete) s w) in
+            let z = word-exact (length (looped q (sizes u) .given)) (length (looped q (sizes u) .stack)) .0 (subst (λ (x : State). wordFor (x .given) (x .waiting) ≡ Complete) s w) in
             clear-all q (sizes u) (L .ok) (L .own) (z .0) (z .1),
         λ y e out h k.
             let s = same-next y (stateOf q (looped q (sizes u))) (sym e ∙ L .answer) in

@@ -40,7 +40,7 @@ use Rattle.states.specs.States.{Memory, Sizes, sizes, needed, enough, allowance
 use Rattle.search.specs.Steps.{halves}
 use Rattle.report.specs.declared.Reported.the-variants.{Told, Running, NoRoom as ReportNoRoom}
 use Rattle.coverage.specs.Calls.{Call, step, own, report, Answer, stepped, judged, reported, runAll}
-use Rattle.opening.specs.Asked.{Asked, shape, pieces1, pieces2, In1, In2, pairsOf, start, stateOf, resultOf, netOf1, netOf2, openMemory, rawList, allowanceFor, recordsFor}
+use Rattle.opening.specs.Asked.{Asked, shape, pieces1, pieces2, In1, In2, pairsOf, start, stateOf, tally, netOf1, netOf2, openMemory, rawList, allowanceFor, recordsFor}
 use Rattle.coverage.specs.Rules.{Ruled, suffices, sufficesOwn, stepRule, testTop, ownRule, heard, reportRule, callRule, ruleAll}
 use Rattle.coverage.specs.Claim.{bound, Accounted, GoodAnswer, After, Fine, GoodReport}
 use Rattle.coverage.proofs.Refine.{flats-length, search}
@@ -282,7 +282,7 @@ slice-reads n out slice =
     ap (take (length out * 10)) (append-assoc (flats out) z rest) ∙ take-at (flats out) (z ++ rest) (length out * 10) (flats-length out)
 
 pub good-report : (q : Asked) (m : Search (shape q)) (out : Output) → Ok q m → T (ended (shape q) m)
-    → GoodReport q m (wordFor (length (m .given)) (length (m .stack))) (resultOf q m) (length (merged merging (rawList q m)))
+    → GoodReport q m (wordFor (length (m .given)) (length (m .stack))) (tally q m) (length (merged merging (rawList q m)))
     (written (q .terms) (length (m .given) + length (m .stack)) (merged merging (rawList q m)) out)
 good-report q m out k e =
     let raws = rawList q m in
@@ -329,10 +329,10 @@ module _ (q : Asked) (full : Sizes) where
     where
       go : (a b : Bool)
           → (T a
-          → GoodReport q m (wordFor (length (m .given)) (length (m .stack))) (resultOf q m) (length (merged merging (rawList q m)))
+          → GoodReport q m (wordFor (length (m .given)) (length (m .stack))) (tally q m) (length (merged merging (rawList q m)))
           (written (q .terms) (length (m .given) + length (m .stack)) (merged merging (rawList q m)) out))
           → GoodAnswer q m (cond a (cond b
-          (reported (Told (wordFor (length (m .given)) (length (m .stack))) (resultOf q m) (length (merged merging (rawList q m))))
+          (reported (Told (wordFor (length (m .given)) (length (m .stack))) (tally q m) (length (merged merging (rawList q m))))
           (written (q .terms) (length (m .given) + length (m .stack)) (merged merging (rawList q m)) out))
           (reported ReportNoRoom out)) (reported Running out))
       go false b f = tt
@@ -415,10 +415,10 @@ fresh-claim q u O room cs =
       z .answers,
       record {
         covered = k .covered;
-        balance = subst (λ (x : State). x .tally .pairs + x .tally .splits ≡ x .tally .settled + x .tally .given + x .tally .waiting) (sym (z .state)) (n .counts .balance);
-        atMost = subst (λ (x : State). x .tally .waiting ≤ x .tally .pairs + 64) (sym (z .state)) (at-most (shape q) (pairsOf q) (m .stack) (n .counts .steep));
-        allowance = subst (λ (x : State). x .tally .splits + x .tally .unspent ≡ allowanceOf (x .tally)) (sym (z .state)) (n .allowance);
-        visited = subst (λ (x : State). x .tally .visits ≡ x .tally .splits + x .tally .settled + x .tally .given + cond (x .tally .stopped) 1 0) (sym (z .state)) (n .visited);
+        balance = subst (λ (x : State). x .pairs + x .splits ≡ x .settled + x .given + x .waiting) (sym (z .state)) (n .counts .balance);
+        atMost = subst (λ (x : State). x .waiting ≤ x .pairs + 64) (sym (z .state)) (at-most (shape q) (pairsOf q) (m .stack) (n .counts .steep));
+        allowance = subst (λ (x : State). x .splits + x .unspent ≡ allowanceOf x) (sym (z .state)) (n .allowance);
+        visited = subst (λ (x : State). x .visits ≡ x .splits + x .settled + x .given + cond (x .stopped) 1 0) (sym (z .state)) (n .visited);
         state = z .state;
         nodes = z .inv .held .nodes;
         givenUp = z .inv .held .raw;

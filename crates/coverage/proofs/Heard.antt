@@ -115,4 +115,4 @@ own-remembered q full before between after a b y p r s =
     let w : waited ≡ hear (shape q) Settled m = idle q full between asked r ∙ e in
     let all : ruleAll q full (before ++ (own a ∷ (between ++ (step Settled b ∷ after)))) (start q) .search ≡ ruleAll q full after done .search
     = rule-append q full before (own a ∷ (between ++ (step Settled b ∷ after))) (start q) ∙ rule-append q full between (step Settled b ∷ after) asked in
-    subst (λ (x : Search (shape q)). Any P (x .tally .settled)) (sym all) (kept q full P after done (noted-after q full m waited b y w s))
+    subst (λ (x : Search (shape q)). Any P (x .settled)) (sym all) (kept q full P after done (noted-after q full m waited b y w s))

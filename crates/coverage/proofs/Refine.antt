@@ -29,7 +29,7 @@ use Rattle.search.specs.Steps.{part1, part2}
 use Rattle.nodes.specs.Moves.{givenState}
 use Rattle.search.specs.Steps.{Stepping, stepping, halves, splitMemory, giveUpAt, divideAt, actOn, stepDef}
 use Rattle.coverage.specs.Calls.{stepped, Outcome, lend, giveBack, stepOutcome}
-use Rattle.opening.specs.Asked.{Asked, shape, pairsOf, start, stateOf, resultOf, depthOf, allowanceFor, recordsFor}
+use Rattle.opening.specs.Asked.{Asked, shape, pairsOf, start, stateOf, tally, depthOf, allowanceFor, recordsFor}
 use Rattle.coverage.specs.Rules.{Ruled, lent}
 use Rattle.coverage.specs.Claim.{Stored, AllStored}
 
@@ -343,11 +343,11 @@ zero-none : (S : Shape) (l : List (Node S)) → isZero (length l) ≡ none S l
 zero-none S [] = refl
 zero-none S (n ∷ r) = refl
 
-pub over-ended : (q : Asked) (m : Search (shape q)) → over (stateOf q m .tally) ≡ ended (shape q) m
+pub over-ended : (q : Asked) (m : Search (shape q)) → over (stateOf q m) ≡ ended (shape q) m
 over-ended q m = ap (λ (b : Bool). m .stopped || b) (zero-none (shape q) (m .stack))
 
-pub counts-result : (q : Asked) (m : Search (shape q)) → countsOf (stateOf q m .tally) ≡ resultOf q m
-counts-result q m =
+pub counts-tally : (q : Asked) (m : Search (shape q)) → countsOf (stateOf q m) ≡ tally q m
+counts-tally q m =
     λ i. record {
       pairs = pairsOf q;
       visits = m .visits;
@@ -534,10 +534,10 @@ one-at-most false = omega arith
 pub is-search : (q : Asked) (m : Search (shape q)) (w : Memory) → Numbers q m → TopDepth q w (m .stack) → T (isSearch (stateOf q m) w)
 is-search q m w N z =
     let x = stateOf q m in
-    let b1 = topFits (x .tally .pairs) (x .tally .waiting) (topDepth (x .tally .waiting) (w .depths)) in
-    let b2 = eqb (x .tally .pairs + x .tally .splits) (x .tally .settled + x .tally .given + x .tally .waiting) in
-    let b3 = eqb (x .tally .splits + x .tally .unspent) (allowanceOf (x .tally)) in
-    let b4 = leb (x .tally .visits) (x .tally .splits + x .tally .settled + x .tally .given + 1) in
+    let b1 = topFits (x .pairs) (x .waiting) (topDepth (x .waiting) (w .depths)) in
+    let b2 = eqb (x .pairs + x .splits) (x .settled + x .given + x .waiting) in
+    let b3 = eqb (x .splits + x .unspent) (allowanceOf x) in
+    let b4 = leb (x .visits) (x .splits + x .settled + x .given + 1) in
     and-i b1 (b2 && (b3 && b4)) (topFits-is q (m .stack) w (N .counts .steep) z)
     (and-i b2 (b3 && b4) (eq→eqb (N .counts .balance))
     (and-i b3 b4 (eq→eqb (N .allowance))

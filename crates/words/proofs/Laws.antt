@@ -69,10 +69,10 @@ flag-fits true = refl
 flag-fits false = refl
 
 -- a state's numbers fit the words
-pub counts-fit : (x : State) → x .tally .pairs ≤ 65535 → x .tally .quota ≤ 65535 → x .tally .waiting ≤ 4294967295 → x .tally .splits ≤ 4294967295 → x .tally .unspent ≤ 4294967295
-    → x .tally .settled ≤ 4294967295 → x .tally .given ≤ 4294967295 → countsFit (wordsOf x) ≡ true
+pub counts-fit : (x : State) → x .pairs ≤ 65535 → x .quota ≤ 65535 → x .waiting ≤ 4294967295 → x .splits ≤ 4294967295 → x .unspent ≤ 4294967295
+    → x .settled ≤ 4294967295 → x .given ≤ 4294967295 → countsFit (wordsOf x) ≡ true
 counts-fit x a b c d e f g =
-    simp (le-leb _ _ a, le-leb _ _ b, le-leb _ _ c, le-leb _ _ d, le-leb _ _ e, le-leb _ _ f, le-leb _ _ g, flag-fits (x .tally .stopped))
+    simp (le-leb _ _ a, le-leb _ _ b, le-leb _ _ c, le-leb _ _ d, le-leb _ _ e, le-leb _ _ f, le-leb _ _ g, flag-fits (x .stopped))
 
 -- all words of a state of such widths are a state's; words behind the last change nothing
 pub written-state : (ws : List ℕ) (x : State) → countsFit (wordsOf x) ≡ true → isWidth (x .width1) ≡ true → isWidth (x .width2) ≡ true
@@ -91,9 +91,9 @@ words-turn {s} ws vs i e h k =
     let z : 0 + i ≡ i = omega arith in
     subst (λ (j : ℕ). set s j (getD vs i 0) ≡ paste ws 0 vs (i + 1)) z (copy-turn ws 0 vs i e (subst (λ (j : ℕ). j < length ws) (sym z) h) k)
 
-pub words-are : (x : State) {a b c d : ℕ} {l : List ℕ} → a ≡ x .width1 → b ≡ x .width2 → c ≡ flagOf (x .tally .stopped) → d ≡ toBits binary64 (x .gap)
-    → l ≡ lastWords (x .terms) → x .tally .pairs ∷ x .tally .quota ∷ x .tally .waiting ∷ x .tally .visits ∷ x .tally .splits ∷ x .tally .unspent ∷ x .tally .settled ∷ x .tally .given ∷ a ∷ b ∷ c ∷ d ∷ l ≡ wordsOf x
-words-are x e f g h k = λ i. x .tally .pairs ∷ x .tally .quota ∷ x .tally .waiting ∷ x .tally .visits ∷ x .tally .splits ∷ x .tally .unspent ∷ x .tally .settled ∷ x .tally .given ∷ e i ∷ f i ∷ g i ∷ h i ∷ k i
+pub words-are : (x : State) {a b c d : ℕ} {l : List ℕ} → a ≡ x .width1 → b ≡ x .width2 → c ≡ flagOf (x .stopped) → d ≡ toBits binary64 (x .gap)
+    → l ≡ lastWords (x .terms) → x .pairs ∷ x .quota ∷ x .waiting ∷ x .visits ∷ x .splits ∷ x .unspent ∷ x .settled ∷ x .given ∷ a ∷ b ∷ c ∷ d ∷ l ≡ wordsOf x
+words-are x e f g h k = λ i. x .pairs ∷ x .quota ∷ x .waiting ∷ x .visits ∷ x .splits ∷ x .unspent ∷ x .settled ∷ x .given ∷ e i ∷ f i ∷ g i ∷ h i ∷ k i
 
 pub last-words : (t : Terms) {a b c d e f : ℕ} → a ≡ flagOf (t .turn1) → b ≡ flagOf (t .turn2) → c ≡ toBits binary64 (t .lo1) → d ≡ toBits binary64 (t .hi1)
     → e ≡ toBits binary64 (t .lo2) → f ≡ toBits binary64 (t .hi2) → 0 ∷ 0 ∷ 0 ∷ 0 ∷ 0 ∷ a ∷ b ∷ c ∷ d ∷ e ∷ f ∷ [] ≡ lastWords t
@@ -116,21 +116,21 @@ eleven P p (a ∷ []) n = absurd (omega arith)
 eleven P p [] n = absurd (omega arith)
 
 -- seven stores, one after the other
-pub moves-are : (ws : List ℕ) (x : State) {c : ℕ} → 23 ≤ length ws → c ≡ flagOf (x .tally .stopped)
-    → set (set (set (set (set (set (set ws 2 (x .tally .waiting)) 3 (x .tally .visits)) 4 (x .tally .splits)) 5 (x .tally .unspent)) 6 (x .tally .settled)) 7 (x .tally .given)) 10 c ≡ movedWords ws x
+pub moves-are : (ws : List ℕ) (x : State) {c : ℕ} → 23 ≤ length ws → c ≡ flagOf (x .stopped)
+    → set (set (set (set (set (set (set ws 2 (x .waiting)) 3 (x .visits)) 4 (x .splits)) 5 (x .unspent)) 6 (x .settled)) 7 (x .given)) 10 c ≡ movedWords ws x
 moves-are ws x {c} n e =
-    eleven (λ (l : List ℕ). set (set (set (set (set (set (set l 2 (x .tally .waiting)) 3 (x .tally .visits)) 4 (x .tally .splits)) 5 (x .tally .unspent)) 6 (x .tally .settled)) 7 (x .tally .given)) 10 c
+    eleven (λ (l : List ℕ). set (set (set (set (set (set (set l 2 (x .waiting)) 3 (x .visits)) 4 (x .splits)) 5 (x .unspent)) 6 (x .settled)) 7 (x .given)) 10 c
     ≡ movedWords l x)
-    (λ a b _ _ _ _ _ _ i j _ l. λ t. a ∷ b ∷ x .tally .waiting ∷ x .tally .visits ∷ x .tally .splits ∷ x .tally .unspent ∷ x .tally .settled ∷ x .tally .given ∷ i ∷ j ∷ e t ∷ l) ws (omega arith)
+    (λ a b _ _ _ _ _ _ i j _ l. λ t. a ∷ b ∷ x .waiting ∷ x .visits ∷ x .splits ∷ x .unspent ∷ x .settled ∷ x .given ∷ i ∷ j ∷ e t ∷ l) ws (omega arith)
 
 -- a state's words stay a state's: those that move have a state's numbers
-pub moved-state : (ws : List ℕ) (x : State) → x .tally .waiting ≤ 4294967295 → x .tally .splits ≤ 4294967295 → x .tally .unspent ≤ 4294967295 → x .tally .settled ≤ 4294967295
-    → x .tally .given ≤ 4294967295 → isState ws ≡ true → isState (movedWords ws x) ≡ true
+pub moved-state : (ws : List ℕ) (x : State) → x .waiting ≤ 4294967295 → x .splits ≤ 4294967295 → x .unspent ≤ 4294967295 → x .settled ≤ 4294967295
+    → x .given ≤ 4294967295 → isState ws ≡ true → isState (movedWords ws x) ≡ true
 moved-state ws x a b c d e t = eleven (λ (l : List ℕ). isState l ≡ true → isState (movedWords l x) ≡ true) go ws (omega (arith, within ws t .long)) t
   where
     fit : (p q : ℕ) → leb p 65535 ≡ true → leb q 65535 ≡ true → (l : List ℕ) (i j : ℕ)
-        → countsFit (p ∷ q ∷ x .tally .waiting ∷ x .tally .visits ∷ x .tally .splits ∷ x .tally .unspent ∷ x .tally .settled ∷ x .tally .given ∷ i ∷ j ∷ flagOf (x .tally .stopped) ∷ l) ≡ true
-    fit p q m n l i j = simp (m, n, le-leb _ _ a, le-leb _ _ b, le-leb _ _ c, le-leb _ _ d, le-leb _ _ e, flag-fits (x .tally .stopped))
+        → countsFit (p ∷ q ∷ x .waiting ∷ x .visits ∷ x .splits ∷ x .unspent ∷ x .settled ∷ x .given ∷ i ∷ j ∷ flagOf (x .stopped) ∷ l) ≡ true
+    fit p q m n l i j = simp (m, n, le-leb _ _ a, le-leb _ _ b, le-leb _ _ c, le-leb _ _ d, le-leb _ _ e, flag-fits (x .stopped))
 
     go : (p q c d e f g h i j k : ℕ) (l : List ℕ) → isState (p ∷ q ∷ c ∷ d ∷ e ∷ f ∷ g ∷ h ∷ i ∷ j ∷ k ∷ l) ≡ true
         → isState (movedWords (p ∷ q ∷ c ∷ d ∷ e ∷ f ∷ g ∷ h ∷ i ∷ j ∷ k ∷ l) x) ≡ true
@@ -178,18 +178,18 @@ state-is ws e f = λ i. stateWith ws (e i) (f i)
 pub reads-back : (ws : List ℕ) (x : State) → T (fits binary64 (x .gap)) → T (fits binary64 (x .terms .lo1)) → T (fits binary64 (x .terms .hi1))
     → T (fits binary64 (x .terms .lo2)) → T (fits binary64 (x .terms .hi2)) → stateOf (patch ws 0 (wordsOf x)) ≡ x
 reads-back ws x f a b c d = λ i. record {
-  pairs = x .tally .pairs;
-  quota = x .tally .quota;
-  waiting = x .tally .waiting;
-  visits = x .tally .visits;
-  splits = x .tally .splits;
-  unspent = x .tally .unspent;
-  settled = x .tally .settled;
-  given = x .tally .given;
+  pairs = x .pairs;
+  quota = x .quota;
+  waiting = x .waiting;
+  visits = x .visits;
+  splits = x .splits;
+  unspent = x .unspent;
+  settled = x .settled;
+  given = x .given;
   width1 = x .width1;
   width2 = x .width2;
   gap = ofBits-toBits binary64 (x .gap) f i;
-  stopped = flag-back (x .tally .stopped) i;
+  stopped = flag-back (x .stopped) i;
   terms = record {
     turn1 = flag-back (x .terms .turn1) i;
     turn2 = flag-back (x .terms .turn2) i;
@@ -201,24 +201,24 @@ reads-back ws x f a b c d = λ i. record {
 }
 
 -- moved words are read as the state that moved, where what stays is its own
-pub reads-moved : (ws : List ℕ) (x : State) → 23 ≤ length ws → getD ws 0 0 ≡ x .tally .pairs → getD ws 1 0 ≡ x .tally .quota → getD ws 8 0 ≡ x .width1
+pub reads-moved : (ws : List ℕ) (x : State) → 23 ≤ length ws → getD ws 0 0 ≡ x .pairs → getD ws 1 0 ≡ x .quota → getD ws 8 0 ≡ x .width1
     → getD ws 9 0 ≡ x .width2 → ofBits binary64 (getD ws 11 0) ≡ x .gap → wordTerms ws ≡ x .terms → stateOf (movedWords ws x) ≡ x
 reads-moved ws x n =
-    eleven (λ (l : List ℕ). getD l 0 0 ≡ x .tally .pairs → getD l 1 0 ≡ x .tally .quota → getD l 8 0 ≡ x .width1 → getD l 9 0 ≡ x .width2
+    eleven (λ (l : List ℕ). getD l 0 0 ≡ x .pairs → getD l 1 0 ≡ x .quota → getD l 8 0 ≡ x .width1 → getD l 9 0 ≡ x .width2
     → ofBits binary64 (getD l 11 0) ≡ x .gap → wordTerms l ≡ x .terms → stateOf (movedWords l x) ≡ x)
     (λ _ _ _ _ _ _ _ _ _ _ _ _ p q v w g t i. record {
       pairs = p i;
       quota = q i;
-      waiting = x .tally .waiting;
-      visits = x .tally .visits;
-      splits = x .tally .splits;
-      unspent = x .tally .unspent;
-      settled = x .tally .settled;
-      given = x .tally .given;
+      waiting = x .waiting;
+      visits = x .visits;
+      splits = x .splits;
+      unspent = x .unspent;
+      settled = x .settled;
+      given = x .given;
       width1 = v i;
       width2 = w i;
       gap = g i;
-      stopped = flag-back (x .tally .stopped) i;
+      stopped = flag-back (x .stopped) i;
       terms = t i;
     }) ws (omega arith)
 

@@ -7,15 +7,13 @@ use lib.ListN.{length, getD, set}
 use lib.Ieee.{binary64, ofBits, toBits}
 use Rattle.lists.specs.Parts.{part, patch}
 use Rattle.lists.specs.Tests.{every}
-use Rattle.verdicts.specs.declared.Test.the-variants.{Box, Plane, Line}
 use Rattle.verdicts.specs.declared.Verdict.{Verdict}
 use Rattle.verdicts.specs.declared.Verdict.the-variants.{Settled, Split, Unseparated}
-use Rattle.states.specs.declared.Tally.{Tally}
 use Rattle.states.specs.declared.State.{State}
 use Rattle.terms.specs.declared.Terms.{Terms}
 
 -- ---- a state as 23 words: 0 to 7 pairs, quota, waiting, visits, splits, unspent, settled, given; 8, 9 the widths; 10 stopped; 11 the gap's bits;
--- 12 to 14 the nodes settled by box, plane and line; 15, 16 have no bits: they are kept for the edition and its joint length; 17, 18 whether each line is
+-- 12 to 16 have no bits: they are kept for the nodes settled by box, plane and line, and for the edition and its joint length; 17, 18 whether each line is
 -- asked for a whole turn; 19 to 22 the bits of the asked ends
 
 abbrev pub flagOf : Bool → ℕ
@@ -27,22 +25,19 @@ abbrev pub termWords : Terms → List ℕ
 termWords t =
     flagOf (t .turn1) ∷ flagOf (t .turn2) ∷ toBits binary64 (t .lo1) ∷ toBits binary64 (t .hi1) ∷ toBits binary64 (t .lo2) ∷ toBits binary64 (t .hi2) ∷ []
 
--- words 12 on: 15 and 16 have no bits, so each is 0
-abbrev pub lastWords : State → List ℕ
-lastWords x = x .tally .boxes ∷ x .tally .planes ∷ x .tally .lines ∷ 0 ∷ 0 ∷ termWords (x .terms)
+-- words 12 on: 12 to 16 have no bits, so each is 0
+abbrev pub lastWords : Terms → List ℕ
+lastWords t = 0 ∷ 0 ∷ 0 ∷ 0 ∷ 0 ∷ termWords t
 
 -- all words, as the opening writes them (`state_words`)
 abbrev pub wordsOf : State → List ℕ
 wordsOf x =
-    x .tally .pairs ∷ x .tally .quota ∷ x .tally .waiting ∷ x .tally .visits ∷ x .tally .splits ∷ x .tally .unspent ∷ x .tally .settled ∷ x .tally .given ∷ x .width1 ∷ x .width2
-    ∷ flagOf (x .tally .stopped) ∷ toBits binary64 (x .gap) ∷ lastWords x
+    x .pairs ∷ x .quota ∷ x .waiting ∷ x .visits ∷ x .splits ∷ x .unspent ∷ x .settled ∷ x .given ∷ x .width1 ∷ x .width2
+    ∷ flagOf (x .stopped) ∷ toBits binary64 (x .gap) ∷ lastWords (x .terms)
 
--- the words that a step moves, 2 to 7, 10 and 12 to 14, each in its place; the others stay (`move_state`)
+-- the words that a step moves, 2 to 7 and 10, each in its place; the others stay (`move_state`)
 abbrev pub movedWords : List ℕ → State → List ℕ
-movedWords ws x =
-    patch
-    (set (patch ws 2 (x .tally .waiting ∷ x .tally .visits ∷ x .tally .splits ∷ x .tally .unspent ∷ x .tally .settled ∷ x .tally .given ∷ [])) 10 (flagOf (x .tally .stopped)))
-    12 (x .tally .boxes ∷ x .tally .planes ∷ x .tally .lines ∷ [])
+movedWords ws x = set (patch ws 2 (x .waiting ∷ x .visits ∷ x .splits ∷ x .unspent ∷ x .settled ∷ x .given ∷ [])) 10 (flagOf (x .stopped))
 
 -- every pattern of words 19 to 22 is an end (`read_terms`)
 abbrev pub wordTerms : List ℕ → Terms
@@ -56,8 +51,8 @@ wordTerms ws = record {
 }
 
 -- the state that words are; every pattern of word 11 is a gap (`read_state`)
-abbrev pub tallyIn : List ℕ → Tally
-tallyIn ws = record {
+abbrev pub stateOf : List ℕ → State
+stateOf ws = record {
   pairs = getD ws 0 0;
   quota = getD ws 1 0;
   waiting = getD ws 2 0;
@@ -65,15 +60,13 @@ tallyIn ws = record {
   splits = getD ws 4 0;
   unspent = getD ws 5 0;
   settled = getD ws 6 0;
-  boxes = getD ws 12 0;
-  planes = getD ws 13 0;
-  lines = getD ws 14 0;
   given = getD ws 7 0;
+  width1 = getD ws 8 0;
+  width2 = getD ws 9 0;
+  gap = ofBits binary64 (getD ws 11 0);
   stopped = eqb (getD ws 10 0) 1;
+  terms = wordTerms ws;
 }
-
-abbrev pub stateOf : List ℕ → State
-stateOf ws = record { tally = tallyIn ws; width1 = getD ws 8 0; width2 = getD ws 9 0; gap = ofBits binary64 (getD ws 11 0); terms = wordTerms ws }
 
 -- ---- which words are a state's
 
@@ -87,10 +80,7 @@ countsFit ws =
     && (leb (getD ws 5 0) 4294967295
     && (leb (getD ws 6 0) 4294967295
     && (leb (getD ws 7 0) 4294967295
-    && (leb (getD ws 12 0) 4294967295
-    && (leb (getD ws 13 0) 4294967295
-    && (leb (getD ws 14 0) 4294967295
-    && leb (getD ws 10 0) 1)))))))))
+    && leb (getD ws 10 0) 1))))))
 
 -- the points of a net, degree + 1: 2 to 26 (`is_width`)
 abbrev pub isWidth : ℕ → Bool
@@ -106,7 +96,7 @@ turnsFit ws = leb (getD ws 17 0) 1 && leb (getD ws 18 0) 1
 
 -- 23 words or more, each within its bits (`is_state`)
 abbrev pub isState : List ℕ → Bool
-isState ws = leb 23 (length ws) && (countsFit ws && (isWidth (getD ws 8 0) && (isWidth (getD ws 9 0) && (turnsFit ws && areZero (part 15 2 ws)))))
+isState ws = leb 23 (length ws) && (countsFit ws && (isWidth (getD ws 8 0) && (isWidth (getD ws 9 0) && (turnsFit ws && areZero (part 12 5 ws)))))
 
 -- the same as facts on numbers, for `read_state`
 pub record Within (ws : List ℕ) : Type 0 where
@@ -124,6 +114,6 @@ pub record Within (ws : List ℕ) : Type 0 where
 
 -- ---- verdicts as numbers
 
--- a verdict handed to a step: 1, 4 and 5 are Settled by box, plane and line, 2 Split, and every other number Unseparated, which loses nothing (`verdict_of`)
+-- a verdict handed to a step: 1 is Settled, 2 Split, and every other number Unseparated, which loses nothing (`verdict_of`)
 abbrev pub verdictOf : ℕ → Verdict
-verdictOf n = cond (eqb n 1) (Settled Box) (cond (eqb n 4) (Settled Plane) (cond (eqb n 5) (Settled Line) (cond (eqb n 2) Split Unseparated)))
+verdictOf n = cond (eqb n 1) Settled (cond (eqb n 2) Split Unseparated)

@@ -7,9 +7,7 @@ ghost use Rattle.lists.specs.Parts.{patch};
 ghost use Rattle.verdicts.specs.Verdicts.{verdictNumber};
 ghost use Rattle.words.specs.Words.{flagOf, wordsOf, movedWords, wordTerms, stateOf, countsFit, isWidth, areZero, turnsFit, isState, Within, verdictOf};
 use states::State;
-use states::Tally;
 use terms::Terms;
-use verdicts::Test;
 use verdicts::Verdict;
 
 // ---- which words are a state's
@@ -38,15 +36,6 @@ fn counts_fit(w: &[u64]) -> bool
         return false;
     }
     if w[7] > 4294967295 {
-        return false;
-    }
-    if w[12] > 4294967295 {
-        return false;
-    }
-    if w[13] > 4294967295 {
-        return false;
-    }
-    if w[14] > 4294967295 {
         return false;
     }
     w[10] <= 1
@@ -104,7 +93,7 @@ pub fn is_state(w: &[u64]) -> bool
     if !turns_fit(w) {
         return false;
     }
-    are_zero(&w[15..17])
+    are_zero(&w[12..17])
 }
 
 // ---- a state from words, and its words
@@ -128,23 +117,18 @@ pub fn read_state(w: &[u64]) -> State
     ensures { λ r. ⌜ r ≡ stateOf (now (w .entry)) ⌝ }
 {
     State {
-        tally: Tally {
-            pairs: w[0] as u16,
-            quota: w[1] as u16,
-            waiting: w[2] as u32,
-            visits: w[3],
-            splits: w[4] as u32,
-            unspent: w[5] as u32,
-            settled: w[6] as u32,
-            boxes: w[12] as u32,
-            planes: w[13] as u32,
-            lines: w[14] as u32,
-            given: w[7] as u32,
-            stopped: w[10] == 1,
-        },
+        pairs: w[0] as u16,
+        quota: w[1] as u16,
+        waiting: w[2] as u32,
+        visits: w[3],
+        splits: w[4] as u32,
+        unspent: w[5] as u32,
+        settled: w[6] as u32,
+        given: w[7] as u32,
         width1: w[8] as u8,
         width2: w[9] as u8,
         gap: patterns::float(w[11]),
+        stopped: w[10] == 1,
         terms: read_terms(w),
     }
 }
@@ -168,21 +152,21 @@ fn state_words(st: State) -> [u64; 23]
     ensures { λ r. ⌜ (r ≡ wordsOf st) × (countsFit (wordsOf st) ≡ true) ⌝ }
 {
     [
-        st.tally.pairs as u64,
-        st.tally.quota as u64,
-        st.tally.waiting as u64,
-        st.tally.visits,
-        st.tally.splits as u64,
-        st.tally.unspent as u64,
-        st.tally.settled as u64,
-        st.tally.given as u64,
+        st.pairs as u64,
+        st.quota as u64,
+        st.waiting as u64,
+        st.visits,
+        st.splits as u64,
+        st.unspent as u64,
+        st.settled as u64,
+        st.given as u64,
         wide(st.width1),
         wide(st.width2),
-        flag(st.tally.stopped),
+        flag(st.stopped),
         patterns::pattern(st.gap),
-        st.tally.boxes as u64,
-        st.tally.planes as u64,
-        st.tally.lines as u64,
+        0,
+        0,
+        0,
         0,
         0,
         flag(st.terms.turn1),
@@ -222,52 +206,33 @@ pub fn move_state(st: State, w: &mut [u64])
     ensures { λ _. ⌜ now (w .exit) ≡ movedWords (now (w .entry)) st ⌝ }
     ensures { λ _. ⌜ (isState (now (w .entry)) ≡ true → isState (now (w .exit)) ≡ true) ⌝ }
 {
-    w[2] = st.tally.waiting as u64;
-    w[3] = st.tally.visits;
-    w[4] = st.tally.splits as u64;
-    w[5] = st.tally.unspent as u64;
-    w[6] = st.tally.settled as u64;
-    w[7] = st.tally.given as u64;
-    w[10] = flag(st.tally.stopped);
-    w[12] = st.tally.boxes as u64;
-    w[13] = st.tally.planes as u64;
-    w[14] = st.tally.lines as u64;
+    w[2] = st.waiting as u64;
+    w[3] = st.visits;
+    w[4] = st.splits as u64;
+    w[5] = st.unspent as u64;
+    w[6] = st.settled as u64;
+    w[7] = st.given as u64;
+    w[10] = flag(st.stopped);
 }
 
 // ---- verdicts as numbers
-
-fn test_number(t: Test) -> u32
-    ensures { λ r. ⌜ r ≡ testNumber t ⌝ }
-{
-    match t {
-        Test::Box => 1,
-        Test::Plane => 4,
-        Test::Line => 5,
-    }
-}
 
 pub fn verdict_number(v: Verdict) -> u32
     ensures { λ r. ⌜ r ≡ verdictNumber v ⌝ }
 {
     match v {
-        Verdict::Settled(t) => test_number(t),
+        Verdict::Settled => 1,
         Verdict::Split => 2,
         Verdict::Unseparated => 3,
     }
 }
 
-// 1, 4 and 5 are Settled by box, plane and line, 2 Split, every other number Unseparated.
+// 1 is Settled, 2 Split, every other number Unseparated.
 pub fn verdict_of(n: u32) -> Verdict
     ensures { λ r. ⌜ r ≡ verdictOf n ⌝ }
 {
     if n == 1 {
-        return Verdict::Settled(Test::Box);
-    }
-    if n == 4 {
-        return Verdict::Settled(Test::Plane);
-    }
-    if n == 5 {
-        return Verdict::Settled(Test::Line);
+        return Verdict::Settled;
     }
     if n == 2 {
         return Verdict::Split;

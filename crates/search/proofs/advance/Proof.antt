@@ -111,7 +111,7 @@ returns-5 c =
     let v = ap (λ (v : Verdict). actOn geometry (suc (args .k)) v (args .st) u) (sym (b .before .before .before .enum-told3 .given .1)) in
     let shallow = b .before .before .if1 .left in
     let some = b .if2 .left in
-    let one : 1 ≤ args .st .tally .unspent = search needs in
+    let one : 1 ≤ args .st .unspent = search needs in
     let h = c .before .before .before .before .before .before .before .before .halve .ensures in (
       halved-is (args .st) u (args .k) (args .depth) (args .a) (args .b) (pre .1 .0) (pre .1 .1) _ _ _ _ (pre .1 .2) shallow one (R .nets1) (R .nets2)
           (h .0) (h .1) (h .2) (h .3) ∙ v,
