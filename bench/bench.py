@@ -22,7 +22,7 @@ import sys
 import tempfile
 
 import bench_sheets
-from sheets import unmarked
+from sheets import at_level
 
 HERE = os.path.dirname(os.path.abspath(__file__))
 TARGET = os.path.join(HERE, '..', 'target')
@@ -68,7 +68,7 @@ def least_stack(side, data):
 
 def timed(name, data, rust, here, calls, runs):
     _, text = here.answer(data)
-    if text is None or unmarked(text.decode('ascii')).encode('ascii') != rust.answer(data)[1]:
+    if text is None or at_level(text.decode('ascii'), 1).encode('ascii') != rust.answer(data)[1]:
         sys.exit('%s: the answers differ' % name)
     tried = 20
     while rust.times(data, tried) < SPAN / 8:

@@ -57,7 +57,7 @@ static uint32_t take_steps(void)
     for (;;) {
         uint32_t verdict = lovgurshem_own_verdict(SLICE(state), SLICE(nets1), SLICE(nets2), SLICE(depths));
         if (verdict == 20) return 0;
-        if (verdict > LOVGURSHEM_UNSEPARATED) return verdict;
+        if (verdict > LOVGURSHEM_SETTLED_LINE) return verdict;
         uint32_t no = lovgurshem_step(verdict, SLICE(state), SLICE(nets1), SLICE(nets2), SLICE(ranges), SLICE(depths), SLICE(raw));
         if (no != 0) return no;
     }

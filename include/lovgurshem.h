@@ -53,17 +53,18 @@
  *   8, 9      2-26  points of a net of the first line, and of the second
  *   10        1     whether the search was stopped
  *   11        64    the gap, as the bits of a double
- *   12 to 14  none  kept for the nodes settled by box, by plane and by line
+ *   12 to 14  32    nodes settled by box, by plane and by line
  *   15, 16    none  kept for the edition and its joint length
  *   17, 18    1     whether the first line, and the second, is closed and asked
  *                   for a whole turn: hi - lo, as rounded, is its period
  *   19 to 22  64    lo1, hi1, lo2, hi2 as asked, as the bits of doubles
- * Words 12 to 16 have no bits yet: the opening writes 0. Fewer words, a word
+ * Words 15 and 16 have no bits yet: the opening writes 0. Fewer words, a word
  * beyond its bits, a width (8, 9) that isn't 2 to 26 or a word without bits
  * that isn't 0 are no state's. Every pattern of words 11 and 19 to 22 is a
- * double, a NaN's too. A step and the loop write words 2 to 7 and 10; the
- * others, and words behind the last, are left alone. Own verdict and report
- * write none.
+ * double, a NaN's too. A step and the loop write words 2 to 7, 10 and 12 to 14;
+ * the others, and words behind the last, are left alone. Own verdict and report
+ * write none. A state whose words 12 to 14 don't sum to word 6 is no search's;
+ * the sum isn't cut to 32 bits.
  *
  * The state and the lent memory (nets, ranges, depths, raw) belong together:
  * carry both on from call to call as the last one left them. Then each call
@@ -101,15 +102,18 @@ extern "C" {
 
 /* Words of a state, and of a report's counts. */
 #define LOVGURSHEM_STATE 23
-#define LOVGURSHEM_COUNTS 9
+#define LOVGURSHEM_COUNTS 12
 
 /* Bytes of a buffer that every sheet's answer fits. */
-#define LOVGURSHEM_ANSWER 162368
+#define LOVGURSHEM_ANSWER 162446
 
-/* Verdicts, as own verdict answers them and as a step takes them. */
+/* Verdicts, as own verdict answers them and as a step takes them; settled by
+ * box, by plane and by line. */
 #define LOVGURSHEM_SETTLED 1
 #define LOVGURSHEM_SPLIT 2
 #define LOVGURSHEM_UNSEPARATED 3
+#define LOVGURSHEM_SETTLED_PLANE 4
+#define LOVGURSHEM_SETTLED_LINE 5
 
 /* The first of a report's counts. */
 #define LOVGURSHEM_COMPLETE 0
@@ -168,9 +172,10 @@ uint32_t lovgurshem_open(double lo1, double hi1, double lo2, double hi2,
 
 /*
  * What the clearing tests give for the top node's nets and the state's gap:
- * LOVGURSHEM_SETTLED, _SPLIT or _UNSEPARATED. Refused 19 for words that are no
- * state's, then 20, then 19 for short nets or depths or a state that is no
- * search's. Writes nothing.
+ * LOVGURSHEM_SETTLED, _SETTLED_PLANE or _SETTLED_LINE by the first test that
+ * passes (boxes, planes, along one line), _SPLIT or _UNSEPARATED: 1 to 5.
+ * Refused 19 for words that are no state's, then 20, then 19 for short nets or
+ * depths or a state that is no search's. Writes nothing.
  */
 uint32_t lovgurshem_own_verdict(const uint64_t *state, size_t state_length,
     const double *nets1, size_t nets1_length,
@@ -178,12 +183,13 @@ uint32_t lovgurshem_own_verdict(const uint64_t *state, size_t state_length,
     const uint8_t *depths, size_t depths_length);
 
 /*
- * A step with a verdict for the top node: 1 is Settled, 2 Split, and every
- * other number of 32 bits Unseparated, which lists the node and so loses
- * nothing.
+ * A step with a verdict for the top node: 1, 4 and 5 are Settled by box, plane
+ * and line, 2 Split, and every other number of 32 bits Unseparated, which lists
+ * the node and so loses nothing.
  *
- * Settled removes the node. Unseparated, or Split at depth 64, gives it up: its
- * region goes to raw. Split with no allowance left keeps it, and the search
+ * Settled removes the node and counts it by the test that this number names,
+ * whatever the own verdict is. Unseparated, or Split at depth 64, gives it up:
+ * its region goes to raw. Split with no allowance left keeps it, and the search
  * ends. Any other Split halves it. At 0 the words are the next state's, and
  * only the slots or the region that the step fills have changed. Refused 19
  * for words that are no state's, then 20, then 19; then nothing has changed.
@@ -213,10 +219,10 @@ uint32_t lovgurshem_run(uint64_t *state, size_t state_length,
 /*
  * The report of a search that has ended. At 0 the counts are the word
  * (LOVGURSHEM_COMPLETE, _BUDGET or _UNSEPARATED_WORD), pairs, visits, splits,
- * settled, given, left, allowance left, and how many regions; raw has the raw
- * list whole, and report the merged regions, then +0 up to the raw list's
- * length. A region is ten doubles: first lo, hi, second lo, hi, lowest x, y, z,
- * highest x, y, z.
+ * settled, given, left, allowance left, how many regions, and of the settled
+ * those by box, by plane and by line; raw has the raw list whole, and report the
+ * merged regions, then +0 up to the raw list's length. A region is ten doubles:
+ * first lo, hi, second lo, hi, lowest x, y, z, highest x, y, z.
  *
  * marks has a number for each merged region, its stretch mark: the lowest index
  * of its group in the merged list, counted from 0; past the regions marks is

@@ -199,6 +199,16 @@ def beside(r, v, w):
     return (net(a), net(b), g) if r.random() < 0.5 else (net(b), net(a), g)
 
 
+def in_line(r, v, w):
+    """Points along one line, the second's further on: the boxes are nearer than the gap, and no plane parts them."""
+    way, boxes = r.choice([([1.0, 1.0, 1.0], 0.5), ([3.0, 4.0, 0.0], 2.0), ([1.0, -2.0, 2.0], 1.0)])
+    s = 2.0 ** r.randint(-3, 3)
+    a = [[s * i / (v - 1 or 1) * x for x in way] for i in range(v)]
+    b = [[s * (1.5 + i / (w - 1 or 1)) * x for x in way] for i in range(w)]
+    g = s * boxes * r.choice([0.5, 1.0, 1.0625, 1.125, 1.5, 2.0])
+    return (net(a), net(b), g) if r.random() < 0.5 else (net(b), net(a), g)
+
+
 def sizes(r, v, w):
     """Boxes whose squared sizes differ by an ulp."""
     x, y = r.uniform(1, 2), r.uniform(1, 2)
@@ -206,7 +216,7 @@ def sizes(r, v, w):
     return net([[0, 0, 0], [x, y, 0]]), net([[x, 0, 0], [0, far, 0]]), 0.0
 
 
-KINDS = [apart, same, collinear, parallel, skew, boxed, scaled, odd, edge, flat, tie, sizes, beside]
+KINDS = [apart, same, collinear, parallel, skew, boxed, scaled, odd, edge, flat, tie, sizes, beside, in_line]
 
 
 # some widths at and beyond the ends, by the number of the pair

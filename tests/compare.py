@@ -10,16 +10,19 @@ once a sheet. Answers are compared byte for byte with the first program's.
   --pieces      compare the nets of the pieces too (each program is run once a
                 sheet, with --pieces)
   --no-drawn    leave the drawn sheets out
-  --level L     the level of document 02: 1 (document 01), 100 (closed lines) or
-                101 (stretch marks, the default). Sheets of higher levels are
-                left out, and below 101 the regions' marks are dropped from all
-                answers, the stored ones too. A program of document 01 alone
+  --level L     the level of document 02: 1 (document 01), 100 (closed lines),
+                101 (stretch marks) or 103 (box=, plane= and line=, the
+                default). Sheets of higher levels are left out; below 103 the
+                three counts, below 101 the regions' marks too are dropped from
+                all answers, the stored ones too. A program of document 01 alone
                 answers two drawn sheets of level 1 otherwise: first-kind-8 and
                 second-kind-8, which M-100 reads as closed lines
   --replay DIR  take the sheets from DIR/sheets.bin and hold every program
                 against DIR/answers.txt; SEED and N are left out
   --save DIR    where sheets with a difference are saved (default: .)
 
+At level 103 an answer whose three counts don't sum to settled, or with more
+nodes settled by box than halves were made, is a difference too.
 Exit 1 on a difference.
 """
 import collections
@@ -58,7 +61,7 @@ class Program:
             text = run([self.path, '--many'], two)
         except OSError as e:
             sys.exit('%s: %s' % (self.path, e))
-        return sheets.unmarked(text) == sheets.unmarked(sheets.EXAMPLE_ANSWER + '---\n') * 2
+        return sheets.at_level(text, 1) == sheets.at_level(sheets.EXAMPLE_ANSWER + '---\n', 1) * 2
 
     def answers(self, batch):
         if self.many:
@@ -95,10 +98,13 @@ def key_order(k):
 class Comparison:
     def __init__(self, save, level):
         self.save = save
-        self.marked = level >= 101
+        self.level = level
         self.count = 0
         self.different = 0
         self.groups = 0
+        self.tags = [0, 0, 0]  # nodes settled by box, by plane, by line
+        self.tagged = [0, 0, 0]  # answers with such nodes
+        self.all_tags = 0
         self.seen = collections.Counter()
 
     def difference(self, name, data, programs, texts):
@@ -120,22 +126,32 @@ class Comparison:
         lists = [p.answers(data) for p in programs]
         names = [p.name for p in programs]
         for i, (name, d, wanted) in enumerate(items):
-            texts = [l[i] for l in lists]
-            if not self.marked:
-                texts = [sheets.unmarked(t) for t in texts]
-                wanted = wanted and sheets.unmarked(wanted)
-            self.count += 1
-            self.seen[key(texts[0])] += 1
-            self.groups += self.marked and sheets.has_group(texts[0])
+            texts = [sheets.at_level(l[i], self.level) for l in lists]
+            wanted = wanted and sheets.at_level(wanted, self.level)
+            self.count_answer(texts[0])
             if wanted is not None and any(t != wanted for t in texts):
                 self.difference(name, d, ['the list'] + names, [wanted] + texts)
             elif any(t != texts[0] for t in texts):
                 self.difference(name, d, names, texts)
+            elif self.level >= 103 and not sheets.tags_hold(texts[0]):
+                self.difference(name + ': tags', d, names, texts)
+
+    def count_answer(self, text):
+        self.count += 1
+        self.seen[key(text)] += 1
+        self.groups += self.level >= 101 and sheets.has_group(text)
+        tags = sheets.tags(text)
+        self.tags = [x + y for x, y in zip(self.tags, tags)]
+        self.tagged = [x + (y > 0) for x, y in zip(self.tagged, tags)]
+        self.all_tags += all(tags)
 
     def summary(self):
         for k in sorted(self.seen, key=key_order):
             print('%7d  %s' % (self.seen[k], k))
-        grouped = ', %d with a group' % self.groups if self.marked else ''
+        if self.level >= 103:
+            parts = ['%d %s (%d sheets)' % (n, t, s) for t, n, s in zip(sheets.TAGS, self.tags, self.tagged)]
+            print('settled by %s; all three in %d sheets' % (', '.join(parts), self.all_tags))
+        grouped = ', %d with a group' % self.groups if self.level >= 101 else ''
         print('%d sheets%s, %d different' % (self.count, grouped, self.different))
 
 
@@ -159,7 +175,7 @@ def generated(seed, count, with_drawn, level):
 
 
 def main(args):
-    flags = {'--pieces': False, '--no-drawn': False, '--level': '101', '--replay': None, '--save': '.'}
+    flags = {'--pieces': False, '--no-drawn': False, '--level': '103', '--replay': None, '--save': '.'}
     while args and args[0] in flags:
         flag = args.pop(0)
         flags[flag] = args.pop(0) if flag in ('--level', '--replay', '--save') else True

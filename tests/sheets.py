@@ -9,9 +9,10 @@
                                     of PROGRAM, DIR/answers.txt
   sheets.py --level L ...           --list, --many and --replay at a level of
                                     document 02: 1 (document 01, the default),
-                                    100 (closed lines) or 101 (stretch marks).
-                                    --list and --replay have that level's own
-                                    sheets, --many those of all levels up to it
+                                    100 (closed lines), 101 (stretch marks) or
+                                    103 (settled by box, plane or line). --list
+                                    and --replay have that level's own sheets,
+                                    --many those of all levels up to it
 
 From another script:
 
@@ -25,6 +26,7 @@ Ranges that are not given are the bounds of the lines, of a closed one a turn.
 import math
 import os
 import random
+import re
 import struct
 import subprocess
 import sys
@@ -156,7 +158,7 @@ ARCH = line(2, [0, 1, 2], [3, 1, 3], [(0, 0, 0), (0, 2, 0), (2, 2, 0), (2, 0, 0)
 NAN_NET = segment((0, 0, 0), (1, 0, 0), 0.0, BINADE(-1072))
 
 EXAMPLE_ANSWER = (
-    'unseparated pairs=1 visits=1 splits=0 settled=0 given=1 left=0 regions=1\n'
+    'unseparated pairs=1 visits=1 splits=0 settled=0 box=0 plane=0 line=0 given=1 left=0 regions=1\n'
     'region 0000000000000000 3FF0000000000000 0000000000000000 3FF0000000000000'
     ' 0000000000000000 0000000000000000 0000000000000000 3FF0000000000000'
     ' 0000000000000000 0000000000000000 0\n')
@@ -165,6 +167,39 @@ EXAMPLE_ANSWER = (
 def unmarked(answer):
     """The answer as it was before M-101: a region's line is its word and ten floats."""
     return '\n'.join(' '.join(l.split(' ')[:11]) if l.startswith('region ') else l for l in answer.split('\n'))
+
+
+def untagged(answer):
+    """The answer as it was before M-103: without box=, plane= and line=."""
+    return re.sub(r' box=\d+ plane=\d+ line=\d+', '', answer)
+
+
+def at_level(answer, level):
+    """The answer as it is at a level of document 02."""
+    answer = untagged(answer) if level < 103 else answer
+    return unmarked(answer) if level < 101 else answer
+
+
+def counts(answer):
+    """The counts of an answer's first line by their names; none of a refusal."""
+    fields = [f.split('=') for f in answer.split('\n', 1)[0].split(' ')[1:]]
+    return {f[0]: int(f[1]) for f in fields if len(f) == 2 and f[1].isdigit()}
+
+
+TAGS = ('box', 'plane', 'line')
+
+
+def tags(answer):
+    """How many nodes were settled by box, by plane and by line."""
+    c = counts(answer)
+    return tuple(c.get(t, 0) for t in TAGS)
+
+
+def tags_hold(answer):
+    """What holds of the tags in every answer: they sum to settled, and a node settled by box is one of the two halves
+    of a split, since the boxes of a pushed pair aren't apart."""
+    c = counts(answer)
+    return not c or (all(t in c for t in TAGS) and sum(tags(answer)) == c['settled'] and c['box'] <= 2 * c['splits'])
 
 
 def marks(answer):
@@ -1163,6 +1198,87 @@ def marked_drawn():
         yield from part()
 
 
+# ---- drawn sheets by the test that clears (document 02, M-103) ---------------------
+
+RISING = segment((0, 0, 0), (4, 4, 4))
+RISEN = segment((4.5, 4.5, 4.5), (6, 6, 6))  # at the gap 0.5 the boxes aren't apart, and there is no plane
+
+
+def along(start, way, places, lifts=()):
+    """One span whose poles are start + place times way, then the first ones lifted along z."""
+    lifts = list(lifts) + [0.0] * (len(places) - len(lifts))
+    return bezier([tuple(s + u * w for s, w in zip(start, (way[0], way[1]))) + (start[2] + u * way[2] + z,) for u, z in zip(places, lifts)])
+
+
+def one_test():
+    """A pair that one test clears, and no other; the same with that test failing by the last float."""
+    for s in (0, 1, 256):
+        yield from both_ways('line-only-S%d' % s, RISING, RISEN, s, gap=0.5)
+        yield from both_ways('plane-only-S%d' % s, A, PARALLEL, s, gap=0.5)
+    for gap in (0.75, 0.866025403784438, 0.8660254037844382, 1.0):
+        yield from both_ways('line-gap%r' % gap, RISING, RISEN, 4, gap=gap)
+    # 5 apart along the line, and the boxes 4
+    steep, on = segment((0, 0, 0), (3, 4, 0)), segment((6, 8, 0), (9, 12, 0))
+    for gap in (3.9999999999999996, 4.0, 4.999999999999998, 4.999999999999999, 5.0):
+        yield from both_ways('line-3-4-gap%r' % gap, steep, on, 4, gap=gap)
+    for n in (2, 3, 4, 5, 8):
+        lower, upper = [i / (n - 1) for i in range(n)], [1.1 + i / (2 * n - 2) for i in range(n)]
+        for lift in (0.0, 0.1, 0.4, 0.6, 2.0):
+            lifts = [0.0] + [lift] * (n - 2)
+            yield from both_ways('line-degree%d-lift%g' % (n - 1, lift), along((0, 0, 0), (4, 4, 4), lower, lifts), along((0, 0, 0), (4, 4, 4), upper), 16, gap=0.5)
+    # only the normal of both chords; only that of one chord in their plane
+    for gap in (0.25, 0.7276068751089989, 0.75):
+        yield from both_ways('plane-normal-gap%r' % gap, segment((-2, -2, -0.5), (2, 2, 0.5)), segment((-2, 2, 0.25), (2, -2, 1.25)), 4, gap=gap)
+    for gap in (0.5, 0.7071067811865475, 0.75):
+        yield from both_ways('plane-one-chord-gap%r' % gap, segment((0, 0, 0), (4, 4, 0)), segment((2.5, 1.5, 0), (4, 0, 0)), 4, gap=gap)
+
+
+def two_tests():
+    """Nodes that more than one test clears: the first in document 01's order is said."""
+    # a short chord across the other's line: a plane of it clears, and so does the line
+    for size in (0.25, 0.5, 0.75):
+        short = segment((10.6 + size / 2, 10.6 - size / 2, 0), (10.6 - size / 2, 10.6 + size / 2, 0))
+        for s in (0, 4):
+            yield from both_ways('plane-and-line-%g-S%d' % (size, s), segment((0, 0, 0), (10, 10, 0)), short, s, gap=0.5)
+    # a bulge in the first half alone: the second is in line, and its box apart
+    for lift in (0.55, 0.63, 0.65, 0.9, 2.5):
+        bulge = along((0, 0, 0), (8, 8, 8), [0.0, 1 / 3, 2 / 3, 1.0], [0.0, lift])
+        for s in (0, 1, 60):
+            yield from both_ways('box-and-line-%g-S%d' % (lift, s), bulge, segment((-1, -1, -1), (-0.4, -0.4, -0.4)), s, gap=0.5)
+    # halves beside the other line: boxes and planes apart
+    for gap in (0.0, 0.25, 0.5):
+        yield from both_ways('box-and-plane-gap%g' % gap, bezier([(0, 0, 0), (1, 4, 0), (3, 4, 0), (4, 0, 0)]), segment((1, 1.5, 0), (3, 1.5, 0)), 30, gap=gap)
+
+
+def three_tags():
+    """Searches in which all three counts are over 0, and some in which they are not yet."""
+    # the first span's halves are cleared by box and by line, the others by plane or not at all
+    span = [(0, 0, 0), (2, 2, 0), (2, 2, 2), (4, 4, 4)]
+    walk = line(3, [0, 1, 2, 3], [4, 3, 3, 4], span + [(5, 3, 4), (6, 2, 4), (8, 0, 4), (9, 4, 6), (6, 8, 8), (7, 8, 9)])
+    for name, other in (('near', RISEN), ('bent', polyline([(4.5, 4.5, 4.5), (6, 6, 6), (9, 3, 5), (10, 9, 0)])),
+                        ('met', polyline([(4.5, 4.5, 4.5), (6, 6, 6), (7, 1, 4)]))):
+        for s in (0, 1, 3, 20, 60):
+            yield from both_ways('three-%s-S%d' % (name, s), walk, other, s, gap=0.5)
+
+
+def never_halved():
+    """No split is allowed, so no node is halved and none is settled by box; boxes that touch at the gap."""
+    fan = polyline([(0, 0, 0), (4, 4, 0), (4, 4, 4), (8, 8, 4), (6, 9, 6)])
+    for k in range(6):
+        d = 0.25 * k
+        near = polyline([(1 + d, 0, 0), (5 + d, 4, 0), (5, 4 - d, 4), (9 + d, 8, 4)])
+        for gap in (0.0, 0.25, 0.5, below(0.5)):
+            yield 'never-halved-%d-gap%r' % (k, gap), sheet(fan, near, 0, gap=gap)
+    for gap in (1.9999999999999996, below(2.0), 2.0):
+        yield from both_ways('boxes-at-the-gap%r' % gap, A, segment((4, 4, 0), (6, 6, 1)), 0, gap=gap)
+
+
+def tagged_drawn():
+    """All drawn sheets for the tags: (name, bytes)."""
+    for part in (one_test, two_tests, three_tags, never_halved):
+        yield from part()
+
+
 # ---- random sheets --------------------------------------------------------------
 
 
@@ -1808,6 +1924,50 @@ def kind_loops(rng):
 MARKED_KINDS = [(kind_turns, 50), (kind_two_turns, 30), (kind_loops, 20)]
 
 
+def way_of(rng):
+    """A direction for lines in line: not along an axis as a rule, so that the boxes may overlap."""
+    return rng.pick([(1, 1, 1), (1, 1, 0), (3, 4, 0), (1, -2, 2), (1, 0, 0), tuple(random_coordinate(rng, 'unit') for _ in range(3))])
+
+
+def kind_in_line(rng):
+    """Two lines on one straight line or within the gap of it, the second further on by about the gap."""
+    way, size = way_of(rng), rng.pick([1.0, 4.0, 100.0])
+    gap = size * rng.pick([0.1, 0.25, 0.5, rng.unit()])
+    start = tuple(size * random_coordinate(rng, rng.pick(['grid', 'unit'])) for _ in range(3))
+    way = tuple(size * x for x in way)
+    lift = gap * rng.pick([0.0, 0.0, 0.25, 0.5, 0.9, 1.0, 1.5, 8.0])
+    places = lambda lo, hi: [lo] + sorted(rng.between(lo, hi) for _ in range(rng.pick([0, 0, 1, 2, 4]))) + [hi]
+    between = gap / max(math.sqrt(sum(x * x for x in way)), 1e-9) * rng.pick([0.5, 1.0, 1.0, 1.1, 1.3, 1.7, 2.0])
+    lifts = [0.0] + [lift * rng.pick([0.0, 1.0, -1.0]) for _ in range(3)]
+    ends = places(0.0, 1.0), places(1.0 + between, 1.0 + between + rng.pick([0.1, 0.5, 1.0, 2.0]))
+    a, b = (along(start, way, p, lifts[:rng.pick([0, len(p) - 1])]) for p in ends)
+    a, b = (b, a) if rng.chance(0.5) else (a, b)
+    return sheet(a, b, rng.pick([0, 1, 8, 60, 256]), None, gap)
+
+
+def kind_cleared(rng):
+    """Lines of a few spans that pass each other at about the gap, side by side, in line and across."""
+    gap = rng.pick([0.125, 0.25, 0.5, 0.5, 1.0])
+    at = [[0.0, 0.0, 0.0]]
+    for _ in range(2 + rng.below(3)):
+        way, far = way_of(rng), rng.pick([1.0, 2.0, 4.0])
+        at.append([x + far * w for x, w in zip(at[-1], way)])
+    a = polyline([tuple(p) for p in at])
+    i = rng.below(len(at) - 1)
+    way = [y - x for x, y in zip(at[i], at[i + 1])]
+    off = [gap * rng.pick([0.0, 0.0, 1.0, 1.2, 2.0]) * rng.pick([1, -1]) for _ in range(3)]
+    on = rng.pick([1.0, 1.1, 1.2, 0.5, -0.5])
+    p = [x + on * w + o for x, w, o in zip(at[i], way, off)]
+    q = [x + rng.pick([0.2, 0.5, 1.0]) * w for x, w in zip(p, way)]
+    points = [tuple(p), tuple(q)] + [tuple(y + 4 * random_coordinate(rng, 'unit') for y in q) for _ in range(rng.below(3))]
+    b = polyline(points) if rng.chance(0.6) else bezier(points)
+    a, b = (b, a) if rng.chance(0.5) else (a, b)
+    return sheet(a, b, rng.pick([0, 2, 8, 20, 60, 100]), None, gap)
+
+
+TAGGED_KINDS = [(kind_in_line, 50), (kind_cleared, 50)]
+
+
 def random_sheet(rng, kinds):
     """(kind, bytes) of one random sheet."""
     at = rng.below(sum(n for _, n in kinds))
@@ -1819,10 +1979,17 @@ def random_sheet(rng, kinds):
 
 def random_sheets(seed, count, level=1):
     """`count` random sheets; sheet i depends on the seed, i and the level alone. From level 100 on
-    those at 0, 3, 6, .. have closed lines, from 101 on those at 1, 4, 7, .. turns; the others stay."""
+    those at 0, 3, 6, .. have closed lines, from 101 on those at 1, 4, 7, .. turns, from 103 on those at
+    2, 8, 14, .. lines that each test clears; the others stay."""
+    new = {}
+    if level >= 100:
+        new.update({0: CLOSED_KINDS, 3: CLOSED_KINDS})
+    if level >= 101:
+        new.update({1: MARKED_KINDS, 4: MARKED_KINDS})
+    if level >= 103:
+        new[2] = TAGGED_KINDS
     for i in range(count):
-        kinds = CLOSED_KINDS if level >= 100 and i % 3 == 0 else MARKED_KINDS if level >= 101 and i % 3 == 1 else KINDS
-        yield random_sheet(Rng(seed * 1000003 + i), kinds)
+        yield random_sheet(Rng(seed * 1000003 + i), new.get(i % 6, KINDS))
 
 
 # ---- files ------------------------------------------------------------------------
@@ -1844,7 +2011,7 @@ def bucket(kind, answer):
     first = answer.split('\n', 1)[0].split(' ')
     if first[0] == 'refused':
         return tuple(first), 3
-    count = {k: int(v) for k, v in (f.split('=') for f in first[1:])}
+    count = counts(answer)
     return (kind, first[0], min(count['regions'], 3), count['visits'].bit_length() // 3), 1
 
 
@@ -1877,6 +2044,10 @@ MARKED_SEED, MARKED_TRIED, MARKED_BYTES, MARKED_TEXT = 101, 6000, 1200, 1600
 MARKED_GROUPS = [(seam_groups, 1), (whole_turns, 1), (curved_turns, 3), (many_marks, 3)]
 
 
+TAGGED_SEED, TAGGED_TRIED, TAGGED_BYTES, TAGGED_TEXT = 103, 12000, 800, 1200
+TAGGED_GROUPS = [(one_test, 1), (two_tests, 1), (three_tags, 1), (never_halved, 1)]
+
+
 def thinned(program, groups):
     """(bytes, answer) of drawn sheets, of each group every so many."""
     for group, every in groups:
@@ -1902,7 +2073,26 @@ def marked_replay_sheets(program):
             continue
         answer = answer_of(program, data)
         at = marked_bucket(kind, answer)
-        if at not in taken and len(unmarked(answer)) <= MARKED_TEXT:
+        if at not in taken and len(at_level(answer, 1)) <= MARKED_TEXT:
+            taken.add(at)
+            yield data, answer
+
+
+def tagged_bucket(kind, answer):
+    """The bucket with the tests that cleared a node."""
+    return bucket(kind, answer)[0] + tuple(min(n, 2) for n in tags(answer))
+
+
+def tagged_replay_sheets(program):
+    """(bytes, answer) of the replay list for the tags: the drawn sheets, then random ones, one of each bucket."""
+    yield from thinned(program, TAGGED_GROUPS)
+    taken = set()
+    for i, (kind, data) in enumerate(random_sheets(TAGGED_SEED, TAGGED_TRIED, 103)):
+        if i % 6 != 2 or len(data) > TAGGED_BYTES:
+            continue
+        answer = answer_of(program, data)
+        at = tagged_bucket(kind, answer)
+        if at not in taken and len(at_level(answer, 1)) <= TAGGED_TEXT:
             taken.add(at)
             yield data, answer
 
@@ -1917,7 +2107,7 @@ def closed_replay_sheets(program):
             continue
         answer = answer_of(program, data)
         at, most = bucket(kind, answer)
-        if taken.get(at, 0) < most and len(unmarked(answer)) <= CLOSED_TEXT:
+        if taken.get(at, 0) < most and len(at_level(answer, 1)) <= CLOSED_TEXT:
             taken[at] = taken.get(at, 0) + 1
             yield data, answer
 
@@ -1938,7 +2128,7 @@ def replay_sheets(program):
             continue
         answer = answer_of(program, data)
         at, most = bucket(kind, answer)
-        if taken.get(at, 0) < most and len(unmarked(answer)) <= REPLAY_TEXT:
+        if taken.get(at, 0) < most and len(at_level(answer, 1)) <= REPLAY_TEXT:
             taken[at] = taken.get(at, 0) + 1
             yield data, answer
     for group in REPLAY_LAST:
@@ -1958,8 +2148,8 @@ def write_replay(folder, listed):
     print('%d sheets' % count)
 
 
-DRAWN = {1: drawn, 100: closed_drawn, 101: marked_drawn}
-REPLAYS = {1: replay_sheets, 100: closed_replay_sheets, 101: marked_replay_sheets}
+DRAWN = {1: drawn, 100: closed_drawn, 101: marked_drawn, 103: tagged_drawn}
+REPLAYS = {1: replay_sheets, 100: closed_replay_sheets, 101: marked_replay_sheets, 103: tagged_replay_sheets}
 
 
 def drawn_up_to(level):

@@ -1,4 +1,5 @@
-"""The model in C answers the stored sheets, those with closed lines and with stretch marks too, as the Rust did."""
+"""The model in C answers the stored sheets, those with closed lines, with stretch marks and for each test that clears too, as the Rust did; and, told to print
+as before M-103, without its three counts."""
 import pathlib
 import shutil
 import subprocess
@@ -14,6 +15,11 @@ bad = 0
 with tempfile.TemporaryDirectory() as folder:
     program = f"{folder}/clearance"
     subprocess.run([compiler, "-O2", "-std=c99", "-ffp-contract=off", "-o", program, ROOT / "tests/model/clearance.c", "-lm"], check=True)
-    for answers in ["answers", "answers100", "answers101"]:
-        bad |= subprocess.run([sys.executable, "-B", ROOT / "tests/compare.py", "--save", folder, "--replay", ROOT / "tests" / answers, program]).returncode
+    older = pathlib.Path(folder) / "older"
+    older.write_text(f'#!/bin/sh\nexec "{program}" --level 101 "$@"\n')
+    older.chmod(0o755)
+    for answers in ["answers", "answers100", "answers101", "answers103"]:
+        for level, run in [("103", program), ("101", older)]:
+            command = [sys.executable, "-B", ROOT / "tests/compare.py", "--level", level, "--save", folder, "--replay", ROOT / "tests" / answers, run]
+            bad |= subprocess.run(command).returncode
 sys.exit(bad)

@@ -19,20 +19,22 @@ for folder in sorted((ROOT / "crates").iterdir()):
     if folder.name not in crates:
         bad.append(f"crates.txt does not list {folder.name}")
 for edit in sorted(ROOT.glob("crates/*/must-fail/*.edit")):
-    text = edit.read_text()
-    lines = text.splitlines()
-    file = next((l.split(":", 1)[1].strip() for l in lines if l.startswith("file:")), None)
-    olds = [l[4:].strip() for l in lines if l.startswith("old:")]
-    news = [l[4:].strip() for l in lines if l.startswith("new:")]
-    if not file or not olds or len(olds) != len(news):
+    file, old, pairs = None, None, 0  # a file: line holds for the pairs after it
+    for word, _, rest in (line.partition(":") for line in edit.read_text().splitlines()):
+        rest = rest.strip()
+        if word == "file":
+            file = rest
+        elif word == "old":
+            old = rest
+        elif word == "new" and file and old is not None:
+            count = (edit.parent.parent / file).read_text().count(old)
+            if count != 1:
+                bad.append(f"{edit}: its old line occurs {count} times in {file}")
+            if old == rest:
+                bad.append(f"{edit}: changes nothing")
+            old, pairs = None, pairs + 1
+    if not pairs or old is not None:
         bad.append(f"{edit}: wants a file, and an old and a new line")
-        continue
-    source = (edit.parent.parent / file).read_text()
-    for old, new in zip(olds, news):
-        if source.count(old) != 1:
-            bad.append(f"{edit}: its old line occurs {source.count(old)} times in {file}")
-        if old == new:
-            bad.append(f"{edit}: changes nothing")
 texts = "\n".join(p.read_text() for p in ROOT.glob("crates/**/*") if p.suffix in {".rt", ".antt"})
 words = set(re.findall(r"[^\s(){},;.:`]+", texts)) | set(crates) | {p.stem for p in ROOT.glob("crates/*/must-fail/*.edit")}
 for name in re.findall(r"`([^`]+)`", (ROOT / "docs/COVERAGE.md").read_text()):

@@ -52,7 +52,7 @@ static uint32_t take_steps(void)
 {
     for (;;) {
         uint32_t verdict = lovgurshem_own_verdict(SLICE(state), SLICE(nets1), SLICE(nets2), SLICE(depths));
-        if (verdict > LOVGURSHEM_UNSEPARATED) return verdict;
+        if (verdict > LOVGURSHEM_SETTLED_LINE) return verdict;
         uint32_t no = lovgurshem_step(verdict, SLICE(state),
             SLICE(nets1), SLICE(nets2), SLICE(ranges), SLICE(depths), SLICE(raw));
         if (no != 0) return no;
@@ -70,8 +70,9 @@ static uint64_t bits(double x)
 static void print_report(void)
 {
     static const char *word[] = { "complete", "budget", "unseparated" };
-    printf("%s pairs=%" PRIu64 " visits=%" PRIu64 " splits=%" PRIu64 " settled=%" PRIu64 " given=%" PRIu64 " left=%" PRIu64 " regions=%" PRIu64 "\n",
-           word[counts[0]], counts[1], counts[2], counts[3], counts[4], counts[5], counts[6], counts[8]);
+    printf("%s pairs=%" PRIu64 " visits=%" PRIu64 " splits=%" PRIu64, word[counts[0]], counts[1], counts[2], counts[3]);
+    printf(" settled=%" PRIu64 " box=%" PRIu64 " plane=%" PRIu64 " line=%" PRIu64, counts[4], counts[9], counts[10], counts[11]);
+    printf(" given=%" PRIu64 " left=%" PRIu64 " regions=%" PRIu64 "\n", counts[5], counts[6], counts[8]);
     for (uint64_t i = 0; i < counts[8]; i++) {
         printf("region");
         for (int j = 0; j < 10; j++) printf(" %016" PRIX64, bits(report[10 * i + j]));

@@ -44,7 +44,7 @@ mod sys {
 
 /// The answer to a sheet, as printed.
 fn answer(sheet: &[u8]) -> Vec<u8> {
-    let mut out = vec![0u8; 162368];
+    let mut out = vec![0u8; 162446];
     let n = unsafe { sys::lovgurshem_answer(sheet.as_ptr(), sheet.len(), out.as_mut_ptr(), out.len()) };
     out.truncate(n);
     out
@@ -104,7 +104,7 @@ impl Search {
         if no == 0 { Ok(s) } else { Err(no) }
     }
 
-    /// 1 Settled, 2 Split, 3 Unseparated.
+    /// 1, 4 and 5 Settled by box, plane and line, 2 Split, 3 Unseparated.
     fn own_verdict(&self) -> Result<u32, Refused> {
         let n = unsafe {
             sys::lovgurshem_own_verdict(
@@ -113,7 +113,7 @@ impl Search {
                 self.depths.as_ptr(), self.depths.len(),
             )
         };
-        if n <= 3 { Ok(n) } else { Err(n) }
+        if n <= 5 { Ok(n) } else { Err(n) }
     }
 
     fn step(&mut self, verdict: u32) -> Result<(), Refused> {
@@ -129,8 +129,8 @@ impl Search {
     }
 
     /// The counts, the merged regions, ten numbers each, and their marks.
-    fn report(&mut self) -> Result<([u64; 9], Vec<f64>, Vec<u32>), Refused> {
-        let (mut counts, mut list, mut marks) = ([0; 9], vec![0.0; self.raw.len()], vec![0; self.raw.len() / 10]);
+    fn report(&mut self) -> Result<([u64; 12], Vec<f64>, Vec<u32>), Refused> {
+        let (mut counts, mut list, mut marks) = ([0; 12], vec![0.0; self.raw.len()], vec![0; self.raw.len() / 10]);
         let no = unsafe {
             sys::lovgurshem_report(
                 self.state.as_ptr(), self.state.len(),
@@ -146,11 +146,11 @@ impl Search {
     }
 }
 
-fn print_report(counts: &[u64; 9], list: &[f64], marks: &[u32]) {
+fn print_report(counts: &[u64; 12], list: &[f64], marks: &[u32]) {
     let word = ["complete", "budget", "unseparated"][counts[0] as usize];
     println!(
-        "{word} pairs={} visits={} splits={} settled={} given={} left={} regions={}",
-        counts[1], counts[2], counts[3], counts[4], counts[5], counts[6], counts[8]
+        "{word} pairs={} visits={} splits={} settled={} box={} plane={} line={} given={} left={} regions={}",
+        counts[1], counts[2], counts[3], counts[4], counts[9], counts[10], counts[11], counts[5], counts[6], counts[8]
     );
     for (region, mark) in list.chunks(10).zip(marks) {
         let bits = |x: &f64| if *x == 0.0 { 0 } else { x.to_bits() };

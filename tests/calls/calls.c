@@ -10,6 +10,9 @@
  * start of a slice, too few words of a state or of counts, or a state with any
  * of its words forged; in two lists of three states are forged that may pass,
  * with any terms (whole turns, asked ends), and in one of three the memory too.
+ * Before the lists come steps with each number of a list of verdicts, states
+ * with each of a list of tag counts, and nodes that one test clears, settled
+ * with each tag (02, M-103).
  * Prints counts of each kind of call by number, of groups of regions, and
  * differences; exits 1 if there is one.
  *
@@ -19,6 +22,14 @@
 #include "../model/calls.c"
 #include "lovgurshem.h"
 #include <stdlib.h>
+
+/* What callers have compiled in (02, M-103: the old numbers keep their sense). */
+#if LOVGURSHEM_SETTLED != 1 || LOVGURSHEM_SPLIT != 2 || LOVGURSHEM_UNSEPARATED != 3 || LOVGURSHEM_SETTLED_PLANE != 4 || LOVGURSHEM_SETTLED_LINE != 5
+#error "the header's verdicts are other numbers"
+#endif
+#if LOVGURSHEM_STATE != 23 || LOVGURSHEM_COUNTS != 12
+#error "the header has other counts of words"
+#endif
 
 /* ---- the library ------------------------------------------------------- */
 
@@ -108,13 +119,16 @@ static Lent lend(World *w, const size_t n[SLICES], size_t depths, size_t marks)
 
 /* ---- comparing --------------------------------------------------------- */
 
-enum { OPEN, SETTLE, HALVE, GIVE, OWN, RUN, TELL, KINDS };
-static const char *kind_name[] = { "open", "step Settled", "step Split", "step Unseparated",
-                                   "own verdict", "run", "report" };
+/* A step is STEP and its verdict. */
+enum { OPEN, STEP, OWN = STEP + UNSEPARATED + 1, RUN, TELL, KINDS };
+static const char *kind_name[] = { "open", "step Settled by box", "step Settled by plane", "step Settled by line", "step Split",
+                                   "step Unseparated", "own verdict", "run", "report" };
 static uint64_t counts[KINDS][32], calls, differences, forged_calls, short_calls, forged_passed;
 static uint64_t list_number, call_number, lists_seed;
 static uint64_t halved[2], deep, stopped, merged_regions, raw_regions;
 static uint64_t groups[2], turned, whole_openings;
+static uint64_t tagged[TAGS][TAGS], told_tags[TAGS]; /* steps by the own verdict and the step's tag; reports with a tag's count over 0 */
+static uint64_t swept_verdicts, swept_sums[2], swept_tags;
 static int forged; /* whether the call's state is forged */
 static uint64_t spoiled[STATE_WORDS], spoiled_passed[STATE_WORDS], few_words, few_counts, odd_gaps, wide_verdicts;
 
@@ -180,9 +194,9 @@ static size_t words_lent;
 static int spoiled_word; /* which one, or -1 */
 
 /* What a word's bits hold at most; a width is 2 to 26, word 11 is a gap, words
- * 12 to 16 have no bits, and 19 to 22 are ends of ranges. */
+ * 15 and 16 have no bits, and 19 to 22 are ends of ranges. */
 static const uint64_t most[LOVGURSHEM_STATE] = { 0xFFFF, 0xFFFF, 0xFFFFFFFF, UINT64_MAX, 0xFFFFFFFF, 0xFFFFFFFF, 0xFFFFFFFF, 0xFFFFFFFF, 26, 26, 1, UINT64_MAX,
-                                                 0, 0, 0, 0, 0, 1, 1, UINT64_MAX, UINT64_MAX, UINT64_MAX, UINT64_MAX };
+                                                 0xFFFFFFFF, 0xFFFFFFFF, 0xFFFFFFFF, 0, 0, 1, 1, UINT64_MAX, UINT64_MAX, UINT64_MAX, UINT64_MAX };
 
 /* Any pattern of a float: infinite, negative, a zero, a NaN with any sign and
  * payload, quiet or not. */
@@ -204,7 +218,7 @@ static uint64_t odd_word(int i, uint64_t word)
     if (i == 11 || i >= 19) return odd_bits();
     if ((i == 8 || i == 9) && !one_in(4)) return widths[below(10)];
     switch (below(7)) {
-    case 0: return i > 11 && i < 17 ? 1 : most[i];
+    case 0: return i == 15 || i == 16 ? 1 : most[i];
     case 1: case 2: return most[i] + 1;
     case 3: return UINT64_MAX - (one_in(2) ? 0 : below(9));
     case 4: return (uint64_t)1 << below(64);
@@ -215,6 +229,8 @@ static uint64_t odd_word(int i, uint64_t word)
 
 /* The words that a call gets: the state's, or for an opening any. Some calls
  * get too few, or one word of any other value. */
+static int plain; /* neither slices nor words are cut short, no word is forged */
+
 static void hand_words(const State *s)
 {
     uint64_t *w = words[0];
@@ -222,7 +238,9 @@ static void hand_words(const State *s)
     if (s) write_words(s, w);
     words_lent = one_in(3) ? LOVGURSHEM_STATE : WORDS;
     spoiled_word = -1;
-    if (one_in(30)) {
+    if (plain) {
+        words_lent = LOVGURSHEM_STATE;
+    } else if (one_in(30)) {
         words_lent = one_in(2) ? LOVGURSHEM_STATE - 1 : below(LOVGURSHEM_STATE);
         few_words++;
     } else if (s && one_in(12)) {
@@ -275,7 +293,7 @@ static void choose_lent(const State *s)
         size_t most = i == SLICES ? depth_cap : i > SLICES ? mark_cap : cap[i];
         n[i] = exact && need[i] < most ? need[i] : most;
     }
-    if (one_in(8)) {
+    if (!plain && one_in(8)) {
         int i = (int)(NETS1 + below(SLICES + 2 - NETS1));
         size_t least = need[i] < n[i] ? need[i] : n[i];
         short_calls++;
@@ -287,12 +305,26 @@ static void choose_lent(const State *s)
 
 /* ---- calls ------------------------------------------------------------- */
 
-/* A number for the verdict; Unseparated is any other of 32 bits. */
+/* Unseparated is every number of 32 bits but 1, 2, 4 and 5: 0 to 300, these
+ * four and 3 with any of the three upper bytes, multiples of 2^8 and 2^16, any. */
+static uint32_t other_number(void)
+{
+    uint32_t n, k = 1 + (uint32_t)below(5);
+    switch (below(6)) {
+    case 0: n = (uint32_t)below(301); break;
+    case 1: n = k << 8 * (1 + below(3)); break;
+    case 2: n = k + (1u << (8 + below(24))); break;
+    case 3: n = k + (uint32_t)below(0x1000000) * 256; break;
+    case 4: n = one_in(2) ? 0x80000000 : UINT32_MAX - (uint32_t)below(6); break;
+    default: n = (uint32_t)chance() | 8; break;
+    }
+    return verdict_of(n) == UNSEPARATED ? n : 3;
+}
+
+/* A number for the verdict. */
 static uint32_t number_of(Verdict v)
 {
-    static const uint32_t others[] = { 0, 3, 4, 255, 256, 257, 258, 513, 514, 65537, 65538, 0x01000001, 0x80000001, 0x80000002, UINT32_MAX };
-    uint32_t n = v == SETTLED ? 1 : v == SPLIT ? 2 : 3;
-    if (v == UNSEPARATED && one_in(3)) n = one_in(8) ? (uint32_t)chance() | 4 : others[below(sizeof others / sizeof *others)];
+    uint32_t n = v == UNSEPARATED && one_in(3) ? other_number() : verdict_number(v);
     wide_verdicts += n > 255;
     return n;
 }
@@ -316,16 +348,16 @@ static void fill_free(const State *s)
     filled_steps++;
 }
 
-static void do_step(State *s, Verdict v)
+static int do_step(State *s, uint32_t handed)
 {
-    int kind = SETTLE + (int)v, no, was_top;
+    Verdict v = verdict_of(handed);
+    int kind = STEP + (int)v, no, was_top;
     State old = *s;
     Lent *a = &lent[0], *b = &lent[1];
     if (filling) fill_free(s);
     choose_lent(s);
     hand_words(s);
     was_top = s->waiting > 0 && s->waiting <= depth_cap ? model.depths[s->waiting - 1] : 0;
-    uint32_t handed = number_of(v);
     uint32_t got = lovgurshem_step(handed, words[0], words_lent,
         PART(a->nets[0]), PART(a->nets[1]), PART(a->ranges), PART(a->depths), PART(a->raw));
     no = call_step(handed, words[1], words_lent, b);
@@ -343,9 +375,10 @@ static void do_step(State *s, Verdict v)
     }
     count(kind, no);
     compare_worlds(kind, 0);
+    return no;
 }
 
-static void do_own(const State *s)
+static int do_own(const State *s)
 {
     int no;
     Lent *a = &lent[0];
@@ -354,13 +387,14 @@ static void do_own(const State *s)
     uint32_t got = lovgurshem_own_verdict(words[0], words_lent, PART(a->nets[0]), PART(a->nets[1]), PART(a->depths));
     no = call_own_verdict(words[1], words_lent, &lent[1]);
     compare_number(OWN, "answer", got, (uint64_t)no);
-    compare_words(OWN, no > 3);
-    odd_gaps += no <= 3 && !(float_of(words[1][11]) >= 0.0 && float_of(words[1][11]) <= 0x1p24);
+    compare_words(OWN, no > 5);
+    odd_gaps += no <= 5 && !(float_of(words[1][11]) >= 0.0 && float_of(words[1][11]) <= 0x1p24);
     count(OWN, no);
     compare_worlds(OWN, 0);
+    return no;
 }
 
-static void do_run(State *s)
+static int do_run(State *s)
 {
     int no;
     Lent *a = &lent[0];
@@ -374,6 +408,7 @@ static void do_run(State *s)
     if (no == 0) next_state(s);
     count(RUN, no);
     compare_worlds(RUN, 0);
+    return no;
 }
 
 /* Reports by whether a mark isn't its place, with a whole turn of the search's
@@ -386,16 +421,15 @@ static void count_groups(uint64_t merged)
     turned += words[1][17] || words[1][18];
 }
 
-static void do_report(const State *s)
+static int do_report(const State *s)
 {
-    static const char *name[] = { "counts 0", "counts 1", "counts 2", "counts 3", "counts 4", "counts 5", "counts 6", "counts 7", "counts 8", "counts behind" };
     uint64_t told[2][LOVGURSHEM_COUNTS + 1], merged = 0;
     size_t told_lent = LOVGURSHEM_COUNTS + below(2);
     int no;
     Lent *a = &lent[0];
     choose_lent(s);
     hand_words(s);
-    if (one_in(20)) {
+    if (!plain && one_in(20)) {
         told_lent = one_in(2) ? LOVGURSHEM_COUNTS - 1 : below(LOVGURSHEM_COUNTS);
         few_counts++;
     }
@@ -405,17 +439,23 @@ static void do_report(const State *s)
     no = call_report(words[1], words_lent, &lent[1], told[1], told_lent);
     compare_number(TELL, "answer", got, (uint64_t)no);
     compare_words(TELL, no);
-    for (int i = 0; i <= LOVGURSHEM_COUNTS; i++) compare_number(TELL, name[i], told[0][i], told[1][i]);
+    for (int i = 0; i <= LOVGURSHEM_COUNTS; i++) {
+        char what[32];
+        snprintf(what, sizeof what, "counts %d", i);
+        compare_number(TELL, what, told[0][i], told[1][i]);
+    }
     if (no == 0) {
         merged = told[1][8];
         merged_regions += merged;
         raw_regions += told[1][5] + told[1][6];
+        for (int i = 0; i < TAGS; i++) told_tags[i] += told[1][9 + i] > 0;
         count_groups(merged);
     }
     count(TELL, no);
     compare_worlds(TELL, merged);
     /* zeros of free sign stay free in the report slice afterwards */
     if (no == 0) memcpy(lib.f[REPORT], model.f[REPORT], (cap[REPORT] + GUARD) * sizeof(double));
+    return no;
 }
 
 /* ---- openings ---------------------------------------------------------- */
@@ -462,6 +502,22 @@ static void draw_line(Drawn *d)
     d->given.weight_count = rational ? poles : 0;
 }
 
+/* A span along a direction from a place on. Two on one line that are half the
+ * direction apart: with a gap from the boxes' distance on, below the lines',
+ * only the line test clears them. */
+static const struct { double way[3], boxes; } directions[] = { { { 1, 1, 1 }, 0.5 }, { { 3, 4, 0 }, 2.0 }, { { 1, -2, 2 }, 1.0 } };
+
+static void draw_along(Drawn *d, const double way[3], double from)
+{
+    uint32_t p = 1 + (uint32_t)below(4);
+    d->given = (Given){ .degree = p, .knot_count = 2, .mult_count = 2, .coord_count = 3 * (p + 1) };
+    for (int i = 0; i < 2; i++) {
+        d->knots[i] = i;
+        d->mults[i] = p + 1;
+    }
+    for (uint32_t i = 0; i < 3 * (p + 1); i++) d->coords[i] = (from + (double)(i / 3) / p) * way[i % 3];
+}
+
 static void spoil_line(Drawn *d)
 {
     static const double far[] = { NAN, INFINITY, -INFINITY, 0x1.0000000000001p20, 0x1.0000000000001p24, 0x1p10, 0x1.0000000000001p10,
@@ -492,9 +548,12 @@ static int do_open(State *s, int spoil)
     static const uint32_t quota[] = { 0, 1, 2, 3, 5, 9, 20, 40, 100, 256 };
     uint32_t splits = quota[below(10)];
     size_t n[SLICES + 1];
+    int in_line = one_in(8), to = (int)below(sizeof directions / sizeof *directions);
+    if (in_line) gap = directions[to].boxes * (1.0 + (double)below(4) * 0.0625);
     for (int i = 0; i < 2; i++) {
         Given *g = &d[i].given;
-        draw_line(&d[i]);
+        if (in_line) draw_along(&d[i], directions[to].way, 1.5 * i);
+        else draw_line(&d[i]);
         if (spoil && one_in(4)) spoil_line(&d[i]);
         g->knots = d[i].knots; g->coords = d[i].coords; g->weights = d[i].weights; g->mults = d[i].mults;
         /* the bounds: flat knots number degree and number poles */
@@ -509,6 +568,7 @@ static int do_open(State *s, int spoil)
         range[i][1] = g->closed ? d[i].knots[lo] + (d[i].knots[g->knot_count > 0 ? g->knot_count - 1 : 0] - d[i].knots[0]) : d[i].knots[hi];
         if (g->closed && one_in(3)) range[i][1] -= (double)below(8) * 0.25;
         if (one_in(3)) range[i][0] += 0.25;
+        else if (range[i][0] == 0.0 && one_in(4)) range[i][0] = -0.0;
         if (one_in(3)) range[i][1] -= one_in(2) ? 0.25 : 0x1p-30;
         if (spoil && one_in(10)) range[i][below(2)] = one_in(2) ? odd() : range[i][1] + 1.0;
         if (spoil && one_in(15)) range[i][1] = nextafter(range[i][0], INFINITY);
@@ -558,17 +618,33 @@ static uint64_t bent(uint64_t x, uint64_t most)
     }
 }
 
+/* Tags whose sum is settled's only modulo 2^32: it is 2^32 or 2^33 more. */
+static void bend_sum(State *s)
+{
+    static const uint32_t more[][TAGS] = { { 0x80000000, 0x80000000, 0 }, { 0xFFFFFFFF, 1, 0 }, { 0xFFFFFFFF, 0, 1 }, { 0x55555555, 0x55555555, 0x55555556 },
+                                           { 0xFFFFFFFF, 0xFFFFFFFF, 2 }, { 0xAAAAAAAA, 0xAAAAAAAB, 0xAAAAAAAB } };
+    const uint32_t *add = more[below(sizeof more / sizeof *more)];
+    uint64_t from = below(TAGS);
+    for (int i = 0; i < TAGS; i++) s->by[(i + from) % TAGS] += add[i];
+}
+
 static void bend(State *s)
 {
     static const uint8_t widths[] = { 0, 1, 2, 26, 27, 255 };
-    switch (below(16)) {
+    uint32_t *tag = &s->by[below(TAGS)], *other = &s->by[below(TAGS)];
+    switch (below(20)) {
     case 0: s->pairs = (uint16_t)bent(s->pairs, UINT16_MAX); break;
     case 1: s->quota = (uint16_t)bent(s->quota, UINT16_MAX); break;
     case 2: s->waiting = one_in(3) ? s->pairs + (uint32_t)below(70) : (uint32_t)bent(s->waiting, UINT32_MAX); break;
     case 3: s->visits = one_in(2) ? (uint64_t)s->splits + s->settled + s->given + below(3) : bent(s->visits, UINT64_MAX); break;
     case 4: s->splits = (uint32_t)bent(s->splits, UINT32_MAX); break;
     case 5: s->unspent = (uint32_t)bent(s->unspent, UINT32_MAX); break;
-    case 6: s->settled = (uint32_t)bent(s->settled, UINT32_MAX); break;
+    case 6: {
+        uint32_t was = s->settled;
+        s->settled = (uint32_t)bent(s->settled, UINT32_MAX);
+        if (one_in(2)) *tag += s->settled - was;
+        break;
+    }
     case 7: s->given = (uint32_t)bent(s->given, UINT32_MAX); break;
     case 8: s->width[0] = one_in(3) ? (uint8_t)bent(s->width[0], 255) : widths[below(6)]; break;
     case 9: s->width[1] = one_in(3) ? (uint8_t)bent(s->width[1], 255) : widths[below(6)]; break;
@@ -576,16 +652,24 @@ static void bend(State *s)
     case 11: /* sums that are right in 32 bits only */
         s->settled += 0x80000000;
         s->given += 0x80000000;
+        *tag += 0x80000000;
         break;
     case 12: {
         uint32_t n = 1 + (uint32_t)below(1000);
         s->splits += s->unspent + n;
         s->settled += s->unspent + n;
+        *tag += s->unspent + n;
         s->unspent = -n;
         break;
     }
     case 13: s->stopped = !s->stopped; break;
     case 14: s->turn[below(2)].whole ^= 1; break;
+    case 15: case 16: *tag = (uint32_t)bent(*tag, UINT32_MAX); break;
+    case 17: /* the sum stays */
+        *tag += 1;
+        *other -= 1;
+        break;
+    case 18: bend_sum(s); break;
     default: *(one_in(2) ? &s->turn[below(2)].lo : &s->turn[below(2)].hi) = float_of(odd_bits()); break;
     }
 }
@@ -604,7 +688,16 @@ static void invent_terms(State *s)
     }
 }
 
-/* A state that passes the five tests (if the top node's depth lets it), and
+/* Tags that sum to settled. */
+static void share(State *s)
+{
+    uint32_t a = (uint32_t)below((uint64_t)s->settled + 1), b = one_in(4) ? 0 : (uint32_t)below((uint64_t)s->settled - a + 1);
+    uint32_t part[TAGS] = { a, b, s->settled - a - b };
+    uint64_t from = below(TAGS);
+    for (int i = 0; i < TAGS; i++) s->by[i] = part[(i + from) % TAGS];
+}
+
+/* A state that passes the six tests (if the top node's depth lets it), and
  * that no list of calls need have made. */
 static void invent(State *s)
 {
@@ -619,6 +712,7 @@ static void invent(State *s)
     s->waiting = (uint32_t)below((of < 104 ? of : 104) + 1);
     s->given = (uint32_t)(one_in(3) ? of - s->waiting : below(of - s->waiting + 1));
     s->settled = (uint32_t)(of - s->waiting - s->given);
+    share(s);
     s->visits = one_in(2) ? (uint64_t)s->splits + s->settled + s->given + one_in(2) : below(of + 2);
     s->stopped = one_in(4);
     if (one_in(3)) s->width[below(2)] = (uint8_t)(one_in(8) ? below(256) : 2 + below(25));
@@ -670,6 +764,116 @@ static void forge_regions(State *s)
     }
 }
 
+/* ---- numbers of verdicts, and sums of tags (02, M-103) ------------------ */
+
+/* A search with one node waiting, others settled by each test and given up. */
+static State small_search(int deep_top, uint32_t unspent)
+{
+    State s = { .pairs = 3, .quota = 2, .waiting = 1, .visits = 14 - 2 * unspent, .splits = 6 - unspent, .unspent = unspent,
+                .settled = 7 - unspent, .given = 1, .by = { 1, 1, 5 - unspent }, .width = { 2, 2 } };
+    lib.depths[0] = model.depths[0] = deep_top ? 64 : 5;
+    return s;
+}
+
+/* A step with this number where a split halves, ends the search, gives up. */
+static void step_with(uint32_t number)
+{
+    for (int i = 0; i < 3; i++) {
+        State s = small_search(i == 2, i == 1 ? 0 : 4);
+        if (do_step(&s, number) != 0) differs(STEP + (int)verdict_of(number), "refused, with the number", number, 0);
+    }
+    swept_verdicts++;
+}
+
+static void each_verdict(void)
+{
+    for (uint32_t n = 0; n <= 300; n++) step_with(n);
+    for (uint32_t k = 1; k <= 5; k++)
+        for (int shift = 8; shift < 32; shift++) {
+            step_with(k << shift);
+            step_with(k + (1u << shift));
+        }
+    step_with(0x80000000);
+    step_with(UINT32_MAX);
+}
+
+/* An own verdict, a step, a loop and a report of a state with these tags, which
+ * pass if `fit`. */
+static void calls_with(uint32_t box, uint32_t plane, uint32_t line, int fit)
+{
+    State s = small_search(0, 4), t, u;
+    int passed;
+    s.by[BY_BOX] = box;
+    s.by[BY_PLANE] = plane;
+    s.by[BY_LINE] = line;
+    t = u = s;
+    u.stopped = 1;
+    passed = do_own(&s) <= 5;
+    passed += do_step(&s, 1 + (uint32_t)below(5)) == 0;
+    small_search(0, 4);
+    passed += do_run(&t) == 0;
+    passed += do_report(&u) == 0;
+    if (passed != (fit ? 4 : 0)) differs(TELL, "own verdict, step, run or report passed", passed, fit ? 4 : 0);
+    swept_sums[fit]++;
+}
+
+/* Three nodes are settled. */
+static void each_sum(void)
+{
+    static const uint32_t edge[] = { 0, 1, 2, 3, 4, 5, 0x55555555, 0x55555556, 0x55555557, 0x7FFFFFFF, 0x80000000, 0x80000001, 0x80000003, 0xAAAAAAAA, 0xAAAAAAAB,
+                                     0xAAAAAAAC, 0xAAAAAAAD, 0xFFFFFFFC, 0xFFFFFFFD, 0xFFFFFFFE, 0xFFFFFFFF };
+    enum { EDGES = sizeof edge / sizeof *edge };
+    for (int i = 0; i < EDGES; i++)
+        for (int j = 0; j < EDGES; j++)
+            for (int k = 0; k < EDGES; k++) {
+                uint64_t sum = (uint64_t)edge[i] + edge[j] + edge[k];
+                uint32_t off = (uint32_t)sum - 3;
+                if (off + 1 <= 2) calls_with(edge[i], edge[j], edge[k], sum == 3);
+            }
+}
+
+/* Two spans for each test, the first in 01's order that passes on them; the own
+ * verdict says so, and the step counts the node by the step's tag. */
+static void each_tag(void)
+{
+    static const struct { double gap, net[2][8]; } parted[TAGS] = {
+        [BY_BOX] = { 0.5, { { 0, 0, 0, 1, 2, 2, 0, 1 }, { 3, 3, 0, 1, 5, 5, 0, 1 } } },
+        [BY_PLANE] = { 0.5, { { 0, 0, 0, 1, 2, 2, 0, 1 }, { 1, 0, 0, 1, 3, 2, 0, 1 } } },
+        [BY_LINE] = { 0.5, { { 0, 0, 0, 1, 4, 4, 4, 1 }, { 4.5, 4.5, 4.5, 1, 6, 6, 6, 1 } } },
+    };
+    for (int own = 0; own < TAGS; own++)
+        for (int tag = 0; tag < TAGS; tag++) {
+            State s = small_search(0, 4), old;
+            s.gap = parted[own].gap;
+            old = s;
+            for (int i = 0; i < 2; i++) {
+                memcpy(lib.f[NETS1 + i], parted[own].net[i], sizeof parted[own].net[i]);
+                memcpy(model.f[NETS1 + i], parted[own].net[i], sizeof parted[own].net[i]);
+            }
+            compare_number(OWN, "the test that is said", (uint64_t)do_own(&s), verdict_number((Verdict)own));
+            if (do_step(&s, verdict_number((Verdict)tag)) != 0) differs(STEP + tag, "refused", 0, 0);
+            compare_number(STEP + tag, "settled", words[0][6], old.settled + 1);
+            for (int i = 0; i < TAGS; i++) compare_number(STEP + tag, "a tag's count", words[0][12 + i], old.by[i] + (i == tag));
+            if (do_report(&s) != 0) differs(TELL, "refused", 0, 0);
+            swept_tags++;
+        }
+}
+
+static void sweep(void)
+{
+    cap[PIECES1] = cap[PIECES2] = 0;
+    cap[NETS1] = cap[NETS2] = 8 * 67;
+    cap[RANGES] = 4 * (depth_cap = 67);
+    cap[RAW] = cap[REPORT] = 90;
+    mark_cap = 9;
+    fill_worlds(0);
+    plain = 1;
+    each_verdict();
+    each_sum();
+    each_tag();
+    plain = 0;
+}
+
 /* ---- a list ------------------------------------------------------------ */
 
 /* Whether the state's words are a state's: forged widths may not be. */
@@ -687,17 +891,30 @@ static void one_call(State *s, int bias)
     if (r < 10) do_own(s);
     else if (r < 16) do_report(s);
     else if (r < 19 && (bias != 1 || one_in(8))) do_run(s);
-    else if (bias == 1) do_step(s, one_in(25) ? (one_in(2) ? SETTLED : UNSEPARATED) : SPLIT);
-    else if (bias == 2) do_step(s, (Verdict)below(3));
+    else if (bias == 1) do_step(s, number_of(one_in(25) ? (one_in(2) ? (Verdict)below(TAGS) : UNSEPARATED) : SPLIT));
+    else if (bias == 2) do_step(s, number_of((Verdict)below(UNSEPARATED + 1)));
     else {
-        Verdict v = SPLIT;
+        Verdict v = SPLIT, own;
         Lent m;
         size_t n[SLICES];
         memcpy(n, cap, sizeof n);
         m = lend(&model, n, depth_cap, mark_cap);
         if (readable(s)) own_verdict(s, &m, &v);
-        do_step(s, v);
+        own = v;
+        /* 02, M-103: "A verdict given by a caller is tagged .. by that caller" */
+        if (is_settled(own) && one_in(3)) {
+            v = (Verdict)below(TAGS);
+            do_own(s);
+        }
+        if (do_step(s, number_of(v)) == 0 && is_settled(own)) tagged[own][v]++;
     }
+}
+
+static uint64_t steps_and_reports(void)
+{
+    uint64_t n = counts[TELL][0];
+    for (int k = STEP; k < OWN; k++) n += counts[k][0];
+    return n;
 }
 
 /* At most n openings, until one isn't refused. */
@@ -744,7 +961,7 @@ static void one_list(uint64_t least_calls, uint64_t most_calls)
         }
         if (forging && one_in(5)) {
             State f = one_in(3) ? kept : s;
-            uint64_t before = counts[SETTLE][0] + counts[HALVE][0] + counts[GIVE][0] + counts[TELL][0];
+            uint64_t before = steps_and_reports();
             int invented = one_in(2);
             if (invented) invent(&f);
             for (uint64_t i = invented ? one_in(4) : 1 + one_in(4); i > 0; i--) bend(&f);
@@ -752,7 +969,7 @@ static void one_list(uint64_t least_calls, uint64_t most_calls)
             forged = 1;
             one_call(&f, 2);
             forged = 0;
-            forged_passed += counts[SETTLE][0] + counts[HALVE][0] + counts[GIVE][0] + counts[TELL][0] > before;
+            forged_passed += steps_and_reports() > before;
             if (one_in(invented ? 2 : 20) && readable(&f)) s = f;
             continue;
         }
@@ -781,6 +998,8 @@ int main(int argc, char **argv)
         most_calls = strtoull(argv[4], NULL, 10);
     }
     new_worlds();
+    chance_state = lists_seed;
+    sweep();
     for (list_number = 0; list_number < lists; list_number++) {
         chance_state = lists_seed * 0x9E3779B97F4A7C15 + list_number * 0xD1B54A32D192ED03;
         one_list(least_calls, most_calls);
@@ -796,6 +1015,12 @@ int main(int argc, char **argv)
             if (counts[k][i]) printf(" %d=%lu", i, (unsigned long)counts[k][i]);
         printf("\n");
     }
+    printf("steps with each of %lu verdict numbers; tags of three settled nodes that sum %lu, that don't %lu; an own verdict by each test before each tag %lu; reports with nodes settled by box %lu, plane %lu, line %lu\n",
+           (unsigned long)swept_verdicts, (unsigned long)swept_sums[1], (unsigned long)swept_sums[0], (unsigned long)swept_tags,
+           (unsigned long)told_tags[BY_BOX], (unsigned long)told_tags[BY_PLANE], (unsigned long)told_tags[BY_LINE]);
+    printf("steps Settled by box, plane, line with the own verdict by box %lu %lu %lu, by plane %lu %lu %lu, by line %lu %lu %lu\n",
+           (unsigned long)tagged[0][0], (unsigned long)tagged[0][1], (unsigned long)tagged[0][2], (unsigned long)tagged[1][0], (unsigned long)tagged[1][1],
+           (unsigned long)tagged[1][2], (unsigned long)tagged[2][0], (unsigned long)tagged[2][1], (unsigned long)tagged[2][2]);
     printf("halved first %lu, second %lu; given up at depth 64 %lu; stopped %lu; regions raw %lu, merged %lu\n",
            (unsigned long)halved[0], (unsigned long)halved[1], (unsigned long)deep, (unsigned long)stopped, (unsigned long)raw_regions, (unsigned long)merged_regions);
     printf("steps with every free slot of the nets filled %lu\n", (unsigned long)filled_steps);

@@ -1,9 +1,9 @@
 /*
- * The library's operations as document 01 has them, with 02's M-100 and M-101,
- * on lent memory of any length and on any state: the table's numbers 4 to 22
- * and the paragraph under it, Search, Merging, marks. The parts of a sheet's
- * answer (admission, breaks, pieces, boxes, tests, halving, merging, the
- * neighbours' chains) are clearance.c's.
+ * The library's operations as document 01 has them, with 02's M-100, M-101 and
+ * M-103, on lent memory of any length and on any state: the table's numbers 4
+ * to 22 and the paragraph under it, Search, Merging, marks, tags. The parts of
+ * a sheet's answer (admission, breaks, pieces, boxes, tests, halving, merging,
+ * the neighbours' chains) are clearance.c's.
  *
  * A state travels as words of 64 bits; what they are is the header's table
  * (include/lovgurshem.h, STATE).
@@ -27,6 +27,7 @@ typedef struct {
     uint32_t waiting;
     uint64_t visits;
     uint32_t splits, unspent, settled, given;
+    uint32_t by[TAGS]; /* nodes settled by box, by plane, by line */
     uint8_t width[2];
     double gap;
     int stopped; /* a split came due with allowance 0 */
@@ -54,7 +55,7 @@ typedef struct {
 
 /* ---- a state as words -------------------------------------------------- */
 
-enum { STATE_WORDS = 23, COUNT_WORDS = 9 };
+enum { STATE_WORDS = 23, COUNT_WORDS = 12 };
 
 static double float_of(uint64_t bits)
 {
@@ -83,11 +84,13 @@ static int read_words(const uint64_t *w, size_t n, State *s)
     for (int i = 0; i < 2; i++)
         if (w[8 + i] < 2 || w[8 + i] > MAX_WIDTH) return 0;
     if (w[10] > 1) return 0;
-    for (int i = 12; i < 17; i++)
+    for (int i = 0; i < TAGS; i++)
+        if (w[12 + i] > 0xFFFFFFFF) return 0;
+    for (int i = 15; i < 17; i++)
         if (w[i] != 0) return 0;
     if (w[17] > 1 || w[18] > 1) return 0;
     *s = (State){ (uint16_t)w[0], (uint16_t)w[1], (uint32_t)w[2], w[3], (uint32_t)w[4], (uint32_t)w[5], (uint32_t)w[6],
-                  (uint32_t)w[7], { (uint8_t)w[8], (uint8_t)w[9] }, float_of(w[11]), (int)w[10],
+                  (uint32_t)w[7], { (uint32_t)w[12], (uint32_t)w[13], (uint32_t)w[14] }, { (uint8_t)w[8], (uint8_t)w[9] }, float_of(w[11]), (int)w[10],
                   { { (int)w[17], float_of(w[19]), float_of(w[20]) }, { (int)w[18], float_of(w[21]), float_of(w[22]) } } };
     return 1;
 }
@@ -102,6 +105,7 @@ static void move_words(const State *s, uint64_t *w)
     w[6] = s->settled;
     w[7] = s->given;
     w[10] = (uint64_t)s->stopped;
+    for (int i = 0; i < TAGS; i++) w[12 + i] = s->by[i];
 }
 
 /* All words, as the opening writes them: those without bits are 0. */
@@ -113,7 +117,7 @@ static void write_words(const State *s, uint64_t *w)
     w[8] = s->width[0];
     w[9] = s->width[1];
     w[11] = bits_of(s->gap);
-    for (int i = 12; i < 17; i++) w[i] = 0;
+    for (int i = 15; i < 17; i++) w[i] = 0;
     for (int i = 0; i < 2; i++) {
         w[17 + i] = (uint64_t)s->turn[i].whole;
         w[19 + 2 * i] = bits_of(s->turn[i].lo);
@@ -148,8 +152,9 @@ static int slices_fit(const State *s, const Lent *m)
 /* "a state that is no search's: the count waiting is over P + the top node's
  * depth (if one waits), that depth is over 64, pairs + splits != settled +
  * given + waiting, splits + unspent != S x P, or visits is over splits +
- * settled + given + 1". The slices fit; a slot that isn't lent has no node,
- * and the count waiting is then over P + 64. */
+ * settled + given + 1". 02, M-103: "A state whose three don't sum so meets 19".
+ * The slices fit; a slot that isn't lent has no node, and the count waiting is
+ * then over P + 64. */
 static int is_search(const State *s, const Lent *m)
 {
     uint64_t pairs = s->pairs, splits = s->splits, settled = s->settled;
@@ -161,6 +166,7 @@ static int is_search(const State *s, const Lent *m)
     }
     if (pairs + splits != settled + given + waiting) return 0;
     if (splits + s->unspent != (uint64_t)s->quota * pairs) return 0;
+    if ((uint64_t)s->by[BY_BOX] + s->by[BY_PLANE] + s->by[BY_LINE] != settled) return 0;
     return s->visits <= splits + settled + given + 1;
 }
 
@@ -210,8 +216,9 @@ static int step(State *s, Verdict v, const Lent *m)
     uint32_t top = s->waiting - 1;
     if (has_ended(s)) return 20;
     if (!slices_fit(s, m) || !is_search(s, m)) return 19;
-    if (v == SETTLED) {
+    if (is_settled(v)) {
         s->settled++;
+        s->by[v]++;
         s->waiting--;
     } else if (v == UNSEPARATED || m->depths.at[top] == 64) {
         node_hulls(s, m, top, h);
@@ -246,7 +253,7 @@ static int own_verdict(const State *s, const Lent *m, Verdict *v)
 static int run(State *s, const Lent *m)
 {
     while (!has_ended(s)) {
-        Verdict v = SETTLED;
+        Verdict v = UNSEPARATED;
         int no;
         no = own_verdict(s, m, &v);
         if (!no) no = step(s, v, m);
@@ -373,7 +380,19 @@ static int call_open(const Given given[2], const double range[2][2], double gap,
 /* A verdict as a number: "every other number of 32 bits Unseparated". */
 static Verdict verdict_of(uint32_t n)
 {
-    return n == 1 ? SETTLED : n == 2 ? SPLIT : UNSEPARATED;
+    switch (n) {
+    case 1: return BY_BOX;
+    case 2: return SPLIT;
+    case 4: return BY_PLANE;
+    case 5: return BY_LINE;
+    default: return UNSEPARATED;
+    }
+}
+
+static uint32_t verdict_number(Verdict v)
+{
+    static const uint32_t number[] = { [BY_BOX] = 1, [BY_PLANE] = 4, [BY_LINE] = 5, [SPLIT] = 2, [UNSEPARATED] = 3 };
+    return number[v];
 }
 
 /* 19 for words that are no state's comes before everything else. */
@@ -390,11 +409,11 @@ static int call_step(uint32_t verdict, uint64_t *w, size_t n, const Lent *m)
 static int call_own_verdict(const uint64_t *w, size_t n, const Lent *m)
 {
     State s;
-    Verdict v = SETTLED;
+    Verdict v = UNSEPARATED;
     int no;
     if (!read_words(w, n, &s)) return 19;
     no = own_verdict(&s, m, &v);
-    return no ? no : v == SETTLED ? 1 : v == SPLIT ? 2 : 3;
+    return no ? no : (int)verdict_number(v);
 }
 
 static int call_run(uint64_t *w, size_t n, const Lent *m)
@@ -418,7 +437,8 @@ static int call_report(const uint64_t *w, size_t n, const Lent *m, uint64_t *cou
     if (length < COUNT_WORDS) return 19;
     no = report(&s, m, &t);
     if (no == 0) {
-        uint64_t now[COUNT_WORDS] = { (uint64_t)t.word, s.pairs, s.visits, s.splits, s.settled, s.given, s.waiting, s.unspent, t.regions };
+        uint64_t now[COUNT_WORDS] = { (uint64_t)t.word, s.pairs, s.visits, s.splits, s.settled, s.given, s.waiting, s.unspent, t.regions,
+                                      s.by[BY_BOX], s.by[BY_PLANE], s.by[BY_LINE] };
         memcpy(counts, now, sizeof now);
     }
     return no;

@@ -1,14 +1,18 @@
 /*
- * The sheet program of document 01 with document 02's M-100 and M-101: two
- * B-splines, open or closed, a stretch of each and a gap; the answer is a
- * verdict with the regions that could not be cleared, each with its stretch
- * mark, or a refusal with its number.
+ * The sheet program of document 01 with document 02's M-100, M-101 and M-103:
+ * two B-splines, open or closed, a stretch of each and a gap; the answer is a
+ * verdict with counts, of the settled nodes by the test that cleared them too,
+ * and the regions that could not be cleared, each with its stretch mark, or a
+ * refusal with its number.
  *
  *   clearance < SHEET            prints the answer
  *   clearance --pieces < SHEET   the answer, then the net of every piece
  *   clearance --many             sheets one after the other on standard input,
  *                                each a 32-bit little-endian length and that
  *                                many bytes; each answer ends with a line ---
+ *   clearance --level L ...      the answer as printed at a level of document
+ *                                02: below 103 without box=, plane= and line=,
+ *                                below 101 without marks
  *
  * Build: cc -O2 -std=c99 -ffp-contract=off -o clearance clearance.c -lm
  *
@@ -682,16 +686,25 @@ static int along_one_line(const Hull *a, const Hull *b, double gap, Vec *axis)
     return near_line(a, origin, *axis, gap) && near_line(b, origin, *axis, gap);
 }
 
-typedef enum { SETTLED, SPLIT, UNSEPARATED } Verdict;
+/* 02, M-103: the clearing test says "box, plane or line for each settled node";
+ * the number of a settled verdict is its tag's. */
+typedef enum { BY_BOX, BY_PLANE, BY_LINE, SPLIT, UNSEPARATED } Verdict;
+enum { TAGS = 3 };
 
+static int is_settled(Verdict v)
+{
+    return v == BY_BOX || v == BY_PLANE || v == BY_LINE;
+}
+
+/* The tag is "the first test in document 01's order that passes". */
 static Verdict own_verdict(const Hull *a, const Hull *b, double gap)
 {
     Vec axis;
     if (!a->measured || !b->measured) return UNSEPARATED;
-    if (boxes_apart(a->box, b->box, gap)) return SETTLED;
-    if (separated(a, b, gap)) return SETTLED;
+    if (boxes_apart(a->box, b->box, gap)) return BY_BOX;
+    if (separated(a, b, gap)) return BY_PLANE;
     if (!along_one_line(a, b, gap, &axis)) return SPLIT;
-    return apart_along(axis, a, b, gap) ? SETTLED : UNSEPARATED;
+    return apart_along(axis, a, b, gap) ? BY_LINE : UNSEPARATED;
 }
 
 /* ---- Search (01, Search) ----------------------------------------------- */
@@ -719,6 +732,7 @@ typedef struct {
     Region report[LENT_REGIONS / 10];
     uint32_t marks[LENT_MARKS];
     uint64_t pairs, visits, splits, settled, given;
+    uint64_t by[TAGS]; /* nodes settled by box, by plane, by line */
     uint64_t waiting, unspent;
     int ended;
 } Search;
@@ -798,6 +812,7 @@ static int open_search(Search *s, const Sheet *sheet)
     s->pairs = for_pairs(s, 0);
     if (!memory_fits(s, s->pairs, sheet->splits_per_pair)) return 19;
     s->visits = s->splits = s->settled = s->given = s->waiting = 0;
+    memset(s->by, 0, sizeof s->by);
     for_pairs(s, 1);
     s->unspent = sheet->splits_per_pair * s->pairs;
     s->ended = s->pairs == 0;
@@ -859,10 +874,12 @@ static void step(Search *s)
         split_node(s, box_size(hull[1].box) >= box_size(hull[0].box));
         return;
     }
-    if (v == SETTLED)
+    if (is_settled(v)) {
         s->settled++;
-    else
+        s->by[v]++;
+    } else {
         s->raw[s->given++] = region_of(s, top, hull);
+    }
     s->waiting--;
     s->ended = s->waiting == 0;
 }
@@ -1018,6 +1035,17 @@ static void print_float(double x)
            (unsigned long)(bits & 0xFFFFFFFF));
 }
 
+/* The level of document 02 whose answers are printed. */
+static int level = 103;
+
+/* 02, M-103: "printed as box=, plane= and line= after" settled. */
+static void print_tags(const uint64_t by[TAGS])
+{
+    static const char *name[TAGS] = { "box", "plane", "line" };
+    for (int i = 0; i < TAGS; i++)
+        printf(" %s=%lu", name[i], (unsigned long)by[i]);
+}
+
 static void print_result(const Search *s, uint64_t regions)
 {
     const char *word = "complete";
@@ -1025,15 +1053,17 @@ static void print_result(const Search *s, uint64_t regions)
         word = "budget";
     else if (s->given > 0)
         word = "unseparated";
-    printf("%s pairs=%lu visits=%lu splits=%lu settled=%lu given=%lu left=%lu"
-           " regions=%lu\n", word, (unsigned long)s->pairs,
-           (unsigned long)s->visits, (unsigned long)s->splits,
-           (unsigned long)s->settled, (unsigned long)s->given,
+    printf("%s pairs=%lu visits=%lu splits=%lu settled=%lu", word,
+           (unsigned long)s->pairs, (unsigned long)s->visits,
+           (unsigned long)s->splits, (unsigned long)s->settled);
+    if (level >= 103) print_tags(s->by);
+    printf(" given=%lu left=%lu regions=%lu\n", (unsigned long)s->given,
            (unsigned long)s->waiting, (unsigned long)regions);
     for (uint64_t i = 0; i < regions; i++) {
         printf("region");
         for (int j = 0; j < 10; j++) print_float(s->report[i].f[j]);
-        printf(" %lu\n", (unsigned long)s->marks[i]);
+        if (level >= 101) printf(" %lu", (unsigned long)s->marks[i]);
+        printf("\n");
     }
 }
 
@@ -1135,7 +1165,13 @@ static void answer_many(void)
 int main(int argc, char **argv)
 {
     static unsigned char bytes[MAX_BYTES + 1];
-    int pieces = argc > 1 && strcmp(argv[1], "--pieces") == 0;
+    int pieces;
+    if (argc > 2 && strcmp(argv[1], "--level") == 0) {
+        level = atoi(argv[2]);
+        argc -= 2;
+        argv += 2;
+    }
+    pieces = argc > 1 && strcmp(argv[1], "--pieces") == 0;
     if (argc > 1 && strcmp(argv[1], "--many") == 0) {
         answer_many();
         return 0;

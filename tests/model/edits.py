@@ -119,7 +119,7 @@ EDITS = [
     ('boxes apart at equality, second', 'if (a[c] > b[c + 3] + gap || b[c] > a[c + 3] + gap) return 1;', 'if (a[c] > b[c + 3] + gap || b[c] >= a[c + 3] + gap) return 1;'),
     ('boxes by difference', 'if (a[c] > b[c + 3] + gap ||', 'if (a[c] - b[c + 3] > gap ||'),
     ('boxes without z', 'for (int c = 0; c < 3; c++)\n        if (a[c] >', 'for (int c = 0; c < 2; c++)\n        if (a[c] >'),
-    ('boxes without gap', 'if (boxes_apart(a->box, b->box, gap)) return SETTLED;', 'if (boxes_apart(a->box, b->box, 0.0)) return SETTLED;'),
+    ('boxes without gap', 'if (boxes_apart(a->box, b->box, gap)) return BY_BOX;', 'if (boxes_apart(a->box, b->box, 0.0)) return BY_BOX;'),
     ('sizes without root', 'return sqrt(x * x + y * y + z * z);', 'return x * x + y * y + z * z;'),
     ('gap not times the axis', 'gap = gap * sqrt(dot(axis, axis));', ''),
     ('apart at equality', 'return a0 > b1 + gap || b0 > a1 + gap;', 'return a0 >= b1 + gap || b0 > a1 + gap;'),
@@ -139,9 +139,9 @@ EDITS = [
     ('line test of the first only', 'return near_line(a, origin, *axis, gap) && near_line(b, origin, *axis, gap);', 'return near_line(a, origin, *axis, gap);'),
     ('line test of the second only', 'return near_line(a, origin, *axis, gap) && near_line(b, origin, *axis, gap);', 'return near_line(b, origin, *axis, gap);'),
     ('line test without the length', '    gap = gap * length;\n', ''),
-    ('in line is unseparated', 'return apart_along(axis, a, b, gap) ? SETTLED : UNSEPARATED;', 'return UNSEPARATED;'),
-    ('line axis turned', 'return apart_along(axis, a, b, gap) ? SETTLED : UNSEPARATED;',
-     'return apart_along(sub(sub(axis, axis), axis), a, b, gap) ? SETTLED : UNSEPARATED;'),
+    ('in line is unseparated', 'return apart_along(axis, a, b, gap) ? BY_LINE : UNSEPARATED;', 'return UNSEPARATED;'),
+    ('line axis turned', 'return apart_along(axis, a, b, gap) ? BY_LINE : UNSEPARATED;',
+     'return apart_along(sub(sub(axis, axis), axis), a, b, gap) ? BY_LINE : UNSEPARATED;'),
     ('no line test', 'if (!along_one_line(a, b, gap, &axis)) return SPLIT;', 'if (!along_one_line(a, b, gap, &axis) || 1) return SPLIT;'),
     # search
     ('pairs second line first', 'if (push) push_pair(s, i, j);', 'if (push) push_pair(s, s->piece_count[0] - 1 - i, j);'),
@@ -280,12 +280,54 @@ EDITS = [
     ('the place for the mark', '        marks[i] = lowest;\n', '        marks[i] = (uint32_t)i;\n'),
     ('places before sorting', '    sort_regions(s->report, n);\n    mark_regions(s->turn, s->report, n, s->marks);\n', '    mark_regions(s->turn, s->report, n, s->marks);\n    sort_regions(s->report, n);\n'),
     ('groups counted as regions', '    print_result(&search, report(&search));', '    { uint64_t n = report(&search), groups = 0;\n      for (uint64_t i = 0; i < n; i++) groups += search.marks[i] == i;\n      print_result(&search, groups); }'),
+    # tags
+    ('plane said for box', 'gap)) return BY_BOX;', 'gap)) return BY_PLANE;'),
+    ('line said for box', 'gap)) return BY_BOX;', 'gap)) return BY_LINE;'),
+    ('box said for plane', 'if (separated(a, b, gap)) return BY_PLANE;', 'if (separated(a, b, gap)) return BY_BOX;'),
+    ('line said for plane', 'if (separated(a, b, gap)) return BY_PLANE;', 'if (separated(a, b, gap)) return BY_LINE;'),
+    ('box said for line', '? BY_LINE : UNSEPARATED;', '? BY_BOX : UNSEPARATED;'),
+    ('plane said for line', '? BY_LINE : UNSEPARATED;', '? BY_PLANE : UNSEPARATED;'),
+    ('plane tested before box', '    if (boxes_apart(a->box, b->box, gap)) return BY_BOX;\n    if (separated(a, b, gap)) return BY_PLANE;\n',
+     '    if (separated(a, b, gap)) return BY_PLANE;\n    if (boxes_apart(a->box, b->box, gap)) return BY_BOX;\n'),
+    ('line tested before plane', '    if (separated(a, b, gap)) return BY_PLANE;\n',
+     '    if (along_one_line(a, b, gap, &axis) && apart_along(axis, a, b, gap)) return BY_LINE;\n    if (separated(a, b, gap)) return BY_PLANE;\n'),
+    ('line tested before box', '    if (boxes_apart(a->box, b->box, gap)) return BY_BOX;\n',
+     '    if (along_one_line(a, b, gap, &axis) && apart_along(axis, a, b, gap)) return BY_LINE;\n    if (boxes_apart(a->box, b->box, gap)) return BY_BOX;\n'),
+    ('the box tag without the gap', 'if (separated(a, b, gap)) return BY_PLANE;', 'if (separated(a, b, gap)) return boxes_apart(a->box, b->box, 0.0) ? BY_BOX : BY_PLANE;'),
+    ('the box tag at the gap', 'if (separated(a, b, gap)) return BY_PLANE;', 'if (separated(a, b, gap)) return boxes_apart(a->box, b->box, gap / 2) ? BY_BOX : BY_PLANE;'),
+    ('the line tag of a plane along one line', 'if (separated(a, b, gap)) return BY_PLANE;', 'if (separated(a, b, gap)) return along_one_line(a, b, gap, &axis) ? BY_LINE : BY_PLANE;'),
+    ('the normal alone is a plane', 'if (separated(a, b, gap)) return BY_PLANE;', 'if (separated(a, b, gap)) return apart_along(cross(chord(a), chord(b)), a, b, gap) ? BY_PLANE : BY_LINE;'),
+    ('out of measure settled by box', 'if (!a->measured || !b->measured) return UNSEPARATED;', 'if (!a->measured || !b->measured) return BY_BOX;'),
+    ('all counted as box', 's->by[v]++;', 's->by[BY_BOX]++;'),
+    ('box uncounted', 's->by[v]++;', 's->by[v] += v != BY_BOX;'),
+    ('plane uncounted', 's->by[v]++;', 's->by[v] += v != BY_PLANE;'),
+    ('line uncounted', 's->by[v]++;', 's->by[v] += v != BY_LINE;'),
+    ('line counted as plane', 's->by[v]++;', 's->by[v == BY_LINE ? BY_PLANE : v]++;'),
+    ('every half counted as box', 's->by[v]++;', 's->by[s->depths[top] > 0 ? BY_BOX : v]++;'),
+    ('box of a node never halved only', 's->by[v]++;', 's->by[v == BY_BOX && s->depths[top] > 0 ? BY_PLANE : v]++;'),
+    ('given counted as line', '        s->raw[s->given++] = region_of(s, top, hull);\n    }', '        s->raw[s->given++] = region_of(s, top, hull);\n        s->by[BY_LINE]++;\n    }'),
+    ('pairs set apart counted as box', 'if (boxes_apart(boxes[0][i], boxes[1][j], s->gap)) continue;', 'if (boxes_apart(boxes[0][i], boxes[1][j], s->gap)) {\n                s->by[BY_BOX]++;\n                continue;\n            }'),
+    ('pairs set apart settled by box', 'if (boxes_apart(boxes[0][i], boxes[1][j], s->gap)) continue;', 'if (boxes_apart(boxes[0][i], boxes[1][j], s->gap)) {\n                s->by[BY_BOX]++;\n                s->settled++;\n                continue;\n            }'),
+    ("the last sheet's tags kept", '    memset(s->by, 0, sizeof s->by);\n', ''),
+    ('no tags', '    if (level >= 103) print_tags(s->by);\n', ''),
+    ('tags before settled', 'printf("%s pairs=%lu visits=%lu splits=%lu settled=%lu", word,\n           (unsigned long)s->pairs, (unsigned long)s->visits,\n           (unsigned long)s->splits, (unsigned long)s->settled);\n    if (level >= 103) print_tags(s->by);\n',
+     'printf("%s pairs=%lu visits=%lu splits=%lu", word, (unsigned long)s->pairs, (unsigned long)s->visits, (unsigned long)s->splits);\n    print_tags(s->by);\n    printf(" settled=%lu", (unsigned long)s->settled);\n'),
+    ('tags after left', '    if (level >= 103) print_tags(s->by);\n    printf(" given=%lu left=%lu regions=%lu\\n", (unsigned long)s->given,\n           (unsigned long)s->waiting, (unsigned long)regions);\n',
+     '    printf(" given=%lu left=%lu", (unsigned long)s->given, (unsigned long)s->waiting);\n    print_tags(s->by);\n    printf(" regions=%lu\\n", (unsigned long)regions);\n'),
+    ('tags printed last', '    if (level >= 103) print_tags(s->by);\n    printf(" given=%lu left=%lu regions=%lu\\n", (unsigned long)s->given,\n           (unsigned long)s->waiting, (unsigned long)regions);\n',
+     '    printf(" given=%lu left=%lu regions=%lu", (unsigned long)s->given, (unsigned long)s->waiting, (unsigned long)regions);\n    print_tags(s->by);\n    printf("\\n");\n'),
+    ('tags printed from the last', 'for (int i = 0; i < TAGS; i++)\n        printf(" %s=%lu"', 'for (int i = TAGS - 1; i >= 0; i--)\n        printf(" %s=%lu"'),
+    ('names changed over', '{ "box", "plane", "line" }', '{ "box", "line", "plane" }'),
+    ('boxes for box', '{ "box", "plane", "line" }', '{ "boxes", "plane", "line" }'),
+    ('tags over 0 only', 'for (int i = 0; i < TAGS; i++)\n        printf(" %s=%lu"', 'for (int i = 0; i < TAGS; i++)\n        if (by[i]) printf(" %s=%lu"'),
+    ('tags of 8 bits', '(unsigned long)by[i]);', '(unsigned long)(by[i] & 0xFF));'),
+    ('tags in hexadecimal', 'printf(" %s=%lu", name[i]', 'printf(" %s=%lX", name[i]'),
     # printing
-    ('no mark', '        printf(" %lu\\n", (unsigned long)s->marks[i]);', '        printf("\\n");'),
-    ('mark without a space', 'printf(" %lu\\n", (unsigned long)s->marks[i]);', 'printf("%lu\\n", (unsigned long)s->marks[i]);'),
-    ('mark in hexadecimal', 'printf(" %lu\\n", (unsigned long)s->marks[i]);', 'printf(" %lX\\n", (unsigned long)s->marks[i]);'),
-    ('mark with three digits', 'printf(" %lu\\n", (unsigned long)s->marks[i]);', 'printf(" %03lu\\n", (unsigned long)s->marks[i]);'),
-    ('mark of two digits', 'printf(" %lu\\n", (unsigned long)s->marks[i]);', 'printf(" %lu\\n", (unsigned long)s->marks[i] % 100);'),
+    ('no mark', 'if (level >= 101) printf(" %lu", (unsigned long)s->marks[i]);', ''),
+    ('mark without a space', 'printf(" %lu", (unsigned long)s->marks[i]);', 'printf("%lu", (unsigned long)s->marks[i]);'),
+    ('mark in hexadecimal', 'printf(" %lu", (unsigned long)s->marks[i]);', 'printf(" %lX", (unsigned long)s->marks[i]);'),
+    ('mark with three digits', 'printf(" %lu", (unsigned long)s->marks[i]);', 'printf(" %03lu", (unsigned long)s->marks[i]);'),
+    ('mark of two digits', 'printf(" %lu", (unsigned long)s->marks[i]);', 'printf(" %lu", (unsigned long)s->marks[i] % 100);'),
     ('mark of the next region', '(unsigned long)s->marks[i]);', '(unsigned long)s->marks[i + 1 < regions ? i + 1 : i]);'),
     ('-0 printed', '    if (x == 0.0) bits = 0;\n', ''),
     ('unseparated before budget', 'if (s->waiting > 0)\n        word = "budget";\n    else if (s->given > 0)\n        word = "unseparated";', 'if (s->given > 0)\n        word = "unseparated";\n    else if (s->waiting > 0)\n        word = "budget";'),
@@ -295,6 +337,10 @@ EDITS = [
 ALIKE = [
     # a middle lies above lo, which is not below the first knot
     ('floor of a negative cut to 0', 'double turns = floor((u - first_knot(l)) / period(l));', 'double turns = trunc((u - first_knot(l)) / period(l));'),
+    # the three sum to settled
+    ('line as what remains', 's->by[v]++;', 's->by[BY_LINE] = s->settled - (s->by[BY_BOX] += v == BY_BOX) - (s->by[BY_PLANE] += v == BY_PLANE);'),
+    # the boxes of a pushed pair aren't apart, and its nets stay until it is halved
+    ('box only of halves', 's->by[v]++;', 's->by[v == BY_BOX && s->depths[top] == 0 ? BY_PLANE : v]++;'),
     # place takes the span's start for any value outside the span, so for any outside the turn
     ('in_period without "first where"', 'return start_unless(first_knot(l), last_knot(l), u - period(l) * turns);', 'return u - period(l) * turns;'),
 ]
@@ -334,8 +380,8 @@ def stored(folders):
 
 
 def generated(seed, count):
-    listed = [d for _, d in sheets.drawn_up_to(101)]
-    listed += [d for _, d in sheets.random_sheets(seed, count, 101)]
+    listed = [d for _, d in sheets.drawn_up_to(103)]
+    listed += [d for _, d in sheets.random_sheets(seed, count, 103)]
     return b''.join(sheets.packed(d) for d in listed)
 
 

@@ -49,16 +49,19 @@ fn net_box(points: &[[f64; 3]]) -> Aabb {
     bounding_box(points)
 }
 
-/// The visit of `search_meetings` with Newton's branch removed.
+/// The visit of `search_meetings` with Newton's branch removed; of a settled pair the test that passed first (document 02, M-103).
 fn verdict(a: &[[f64; 3]], b: &[[f64; 3]], gap: f64) -> &'static str {
     if out(a) || out(b) {
         return "unseparated";
     }
-    if boxes_apart(&bounding_box(a), &bounding_box(b), gap) || separated(a, b, gap) {
-        return "settled";
+    if boxes_apart(&bounding_box(a), &bounding_box(b), gap) {
+        return "box";
+    }
+    if separated(a, b, gap) {
+        return "plane";
     }
     match along_one_line(a, b, gap) {
-        Some(axis) if apart_along(axis, a, b, gap) => "settled",
+        Some(axis) if apart_along(axis, a, b, gap) => "line",
         Some(_) => "unseparated",
         None => "split",
     }

@@ -25,12 +25,30 @@ use Rattle.opening.specs.declared.Opened.{Opened}
 use Rattle.opening.specs.declared.Opened.the-variants.{Open, BadLine, BadQuestion, NoRoom as OpenNoRoom}
 use Rattle.opening.specs.Opens.{openDef, openedNumber}
 
--- 2, 3, 10, 12 and 0.5
+-- 2, 3, 4, 4.5, 5, 6, 7, 9, 10 and 12
 abbrev pub two64 : Float
 two64 = ofBits binary64 0x4000_0000_0000_0000
 
 abbrev pub three64 : Float
 three64 = ofBits binary64 0x4008_0000_0000_0000
+
+abbrev pub four64 : Float
+four64 = ofBits binary64 0x4010_0000_0000_0000
+
+abbrev pub fourAndHalf64 : Float
+fourAndHalf64 = ofBits binary64 0x4012_0000_0000_0000
+
+abbrev pub five64 : Float
+five64 = ofBits binary64 0x4014_0000_0000_0000
+
+abbrev pub six64 : Float
+six64 = ofBits binary64 0x4018_0000_0000_0000
+
+abbrev pub seven64 : Float
+seven64 = ofBits binary64 0x401c_0000_0000_0000
+
+abbrev pub nine64 : Float
+nine64 = ofBits binary64 0x4022_0000_0000_0000
 
 abbrev pub ten64 : Float
 ten64 = ofBits binary64 0x4024_0000_0000_0000
@@ -50,7 +68,7 @@ question a b gap splits = record { line1 = a; lo1 = zero64; hi1 = one64; line2 =
 abbrev pub room : ℕ → Memory
 room splits = memory (replicate 520 zero64) (replicate 520 zero64) (replicate 260 zero64) (replicate 65 0) (replicate (suc splits * 10) zero64)
 
--- an answer in numbers: the word's; pairs, visits, splits, settled, given, left and the allowance unspent; the regions' floats and marks; the range ends of the nodes left. Or a refusal's number.
+-- an answer in numbers: the word's; pairs, visits, splits, settled, of these by box, plane and line, given, left and the allowance unspent; the regions' floats and marks; the range ends of the nodes left. Or a refusal's number.
 pub record Answer : Type 0 where
   pub word : ℕ
   pub counts : List ℕ
@@ -65,7 +83,7 @@ abbrev pub told : Reported → Output → List Float → Answer
 told (Told w c n) o ranges =
     record {
       word = wordNumber w;
-      counts = c .pairs ∷ c .visits ∷ c .splits ∷ c .settled ∷ c .given ∷ c .left ∷ c .unspent ∷ [];
+      counts = c .pairs ∷ c .visits ∷ c .splits ∷ c .settled ∷ c .boxes ∷ c .planes ∷ c .lines ∷ c .given ∷ c .left ∷ c .unspent ∷ [];
       regions = take (n * 10) (o .regions);
       marks = take n (o .marks);
       left = take (c .left * 4) ranges;
@@ -136,19 +154,36 @@ starred =
     ∷ pieces lineOfTwo zero64 two64 (at zero64 zero64 (at zero64 two64 (at one64 two64 (at one64 two64 (at two64 two64 (at two64 zero64 []))))))
     -- A with (0,2,0) to (2,0,0), gap 0: S 0 gives budget, left 1
     ∷ searching (question lineA (straight zero64 two64 two64 zero64) zero64 0)
-    (record { word = 1; counts = 1 ∷ 1 ∷ 0 ∷ 0 ∷ 0 ∷ 1 ∷ 0 ∷ []; regions = wholeRegion two64; marks = 0 ∷ []; left = zero64 ∷ one64 ∷ zero64 ∷ one64 ∷ [] })
+    (record { word = 1; counts = 1 ∷ 1 ∷ 0 ∷ 0 ∷ 0 ∷ 0 ∷ 0 ∷ 0 ∷ 1 ∷ 0 ∷ []; regions = wholeRegion two64; marks = 0 ∷ []; left = zero64 ∷ one64 ∷ zero64 ∷ one64 ∷ [] })
     -- S 1 halves the second, visits 2, splits 1, left 2, one region of whole ranges
     ∷ searching (question lineA (straight zero64 two64 two64 zero64) zero64 1)
-    (record { word = 1; counts = 1 ∷ 2 ∷ 1 ∷ 0 ∷ 0 ∷ 2 ∷ 0 ∷ []; regions = wholeRegion two64; marks = 0 ∷ []; left = zero64 ∷ one64 ∷ half64 ∷ one64 ∷ zero64 ∷ one64 ∷ zero64 ∷ half64 ∷ [] })
-    -- with (1,0,0) to (3,2,0): gap 0.5 complete, settled 1
+    (record { word = 1; counts = 1 ∷ 2 ∷ 1 ∷ 0 ∷ 0 ∷ 0 ∷ 0 ∷ 0 ∷ 2 ∷ 0 ∷ []; regions = wholeRegion two64; marks = 0 ∷ []; left = zero64 ∷ one64 ∷ half64 ∷ one64 ∷ zero64 ∷ one64 ∷ zero64 ∷ half64 ∷ [] })
+    -- with (1,0,0) to (3,2,0): gap 0.5 complete, settled 1 (by a plane)
     ∷ searching (question lineA (straight one64 zero64 three64 two64) half64 0)
-    (record { word = 0; counts = 1 ∷ 1 ∷ 0 ∷ 1 ∷ 0 ∷ 0 ∷ 0 ∷ []; regions = []; marks = []; left = [] })
+    (record { word = 0; counts = 1 ∷ 1 ∷ 0 ∷ 1 ∷ 0 ∷ 1 ∷ 0 ∷ 0 ∷ 0 ∷ 0 ∷ []; regions = []; marks = []; left = [] })
     -- gap 1 unseparated, given 1
     ∷ searching (question lineA (straight one64 zero64 three64 two64) one64 0)
-    (record { word = 2; counts = 1 ∷ 1 ∷ 0 ∷ 0 ∷ 1 ∷ 0 ∷ 0 ∷ []; regions = wholeRegion three64; marks = 0 ∷ []; left = [] })
+    (record { word = 2; counts = 1 ∷ 1 ∷ 0 ∷ 0 ∷ 0 ∷ 0 ∷ 0 ∷ 1 ∷ 0 ∷ 0 ∷ []; regions = wholeRegion three64; marks = 0 ∷ []; left = [] })
     -- with (10,0,0) to (12,2,0), gap 0: pairs 0, complete
     ∷ searching (question lineA (straight ten64 zero64 twelve64 two64) zero64 0)
-    (record { word = 0; counts = 0 ∷ 0 ∷ 0 ∷ 0 ∷ 0 ∷ 0 ∷ 0 ∷ []; regions = []; marks = []; left = [] })
+    (record { word = 0; counts = 0 ∷ 0 ∷ 0 ∷ 0 ∷ 0 ∷ 0 ∷ 0 ∷ 0 ∷ 0 ∷ 0 ∷ []; regions = []; marks = []; left = [] })
+    ∷ []
+
+-- ---- which test cleared it (document 02, M-103)
+-- (0,0,0) to (4,4,0) with (4.5,4.5,0) to (6,6,0), gap 0.5: only the line test passes. (0,0,0) to (10,10,0) with (7,9,0) to (9,7,0), gap 0, S 1: the first line is halved, its lower half
+-- is settled by the boxes, and the upper is left.
+abbrev pub cleared : List Case
+cleared =
+    searching (question (straight zero64 zero64 four64 four64) (straight fourAndHalf64 fourAndHalf64 six64 six64) half64 0)
+    (record { word = 0; counts = 1 ∷ 1 ∷ 0 ∷ 1 ∷ 0 ∷ 0 ∷ 1 ∷ 0 ∷ 0 ∷ 0 ∷ []; regions = []; marks = []; left = [] })
+    ∷ searching (question (straight zero64 zero64 ten64 ten64) (straight seven64 nine64 nine64 seven64) zero64 1)
+    (record {
+      word = 1;
+      counts = 1 ∷ 3 ∷ 1 ∷ 1 ∷ 1 ∷ 0 ∷ 0 ∷ 0 ∷ 1 ∷ 0 ∷ [];
+      regions = half64 ∷ one64 ∷ zero64 ∷ one64 ∷ five64 ∷ five64 ∷ zero64 ∷ ten64 ∷ ten64 ∷ zero64 ∷ [];
+      marks = 0 ∷ [];
+      left = half64 ∷ one64 ∷ zero64 ∷ one64 ∷ [];
+    })
     ∷ []
 
 -- ---- further cases
@@ -316,7 +351,7 @@ ThreePieces =
     searchOfTwo (upTo lineOfThree three64 (straight (ofBits binary64 0xbff0_0000_0000_0000) one64 ten64 one64))
     ≡ (record {
       word = 1;
-      counts = 2 ∷ 1 ∷ 0 ∷ 0 ∷ 0 ∷ 2 ∷ 0 ∷ [];
+      counts = 2 ∷ 1 ∷ 0 ∷ 0 ∷ 0 ∷ 0 ∷ 0 ∷ 0 ∷ 2 ∷ 0 ∷ [];
       regions = floats (
           0 ∷ 0x3ff0_0000_0000_0000 ∷ 0 ∷ 0x3ff0_0000_0000_0000 ∷ 0xbff0_0000_0000_0000 ∷ 0 ∷ 0xbff0_0000_0000_0000 ∷ 0x4024_0000_0000_0000 ∷ 0x4010_0000_0000_0000 ∷ 0x4008_0000_0000_0000 ∷
           0x4000_0000_0000_0000 ∷ 0x4008_0000_0000_0000 ∷ 0 ∷ 0x3ff0_0000_0000_0000 ∷ 0xbff0_0000_0000_0000 ∷ 0xc000_0000_0000_0000 ∷ 0xc008_0000_0000_0000 ∷ 0x4024_0000_0000_0000 ∷ 0x4010_0000_0000_0000 ∷ 0x4008_0000_0000_0000 ∷ []);
@@ -341,7 +376,7 @@ TwoPieces =
     searchOfTwo (upTo upAndDown two64 (straight zero64 one64 (ofBits binary64 0x4010_0000_0000_0000) one64))
     ≡ (record {
       word = 1;
-      counts = 2 ∷ 1 ∷ 0 ∷ 0 ∷ 0 ∷ 2 ∷ 0 ∷ [];
+      counts = 2 ∷ 1 ∷ 0 ∷ 0 ∷ 0 ∷ 0 ∷ 0 ∷ 0 ∷ 2 ∷ 0 ∷ [];
       regions = zero64 ∷ two64 ∷ zero64 ∷ one64 ∷ zero64 ∷ zero64 ∷ zero64 ∷ ofBits binary64 0x4010_0000_0000_0000 ∷ two64 ∷ zero64 ∷ [];
       marks = 0 ∷ [];
       left = zero64 ∷ one64 ∷ zero64 ∷ one64 ∷ one64 ∷ two64 ∷ zero64 ∷ one64 ∷ [];
@@ -365,7 +400,7 @@ OverTheSeam =
     searchOfTwo (upTo square (ofBits binary64 0x4010_0000_0000_0000) (straight minus one64 one64 minus))
     ≡ (record {
       word = 1;
-      counts = 2 ∷ 1 ∷ 0 ∷ 0 ∷ 0 ∷ 2 ∷ 0 ∷ [];
+      counts = 2 ∷ 1 ∷ 0 ∷ 0 ∷ 0 ∷ 0 ∷ 0 ∷ 0 ∷ 2 ∷ 0 ∷ [];
       regions = floats (
           0 ∷ 0x3ff0_0000_0000_0000 ∷ 0 ∷ 0x3ff0_0000_0000_0000 ∷ 0xbff0_0000_0000_0000 ∷ 0xbff0_0000_0000_0000 ∷ 0 ∷ 0x4020_0000_0000_0000 ∷ 0x3ff0_0000_0000_0000 ∷ 0 ∷
           0x4008_0000_0000_0000 ∷ 0x4010_0000_0000_0000 ∷ 0 ∷ 0x3ff0_0000_0000_0000 ∷ 0xbff0_0000_0000_0000 ∷ 0xbff0_0000_0000_0000 ∷ 0 ∷ 0x3ff0_0000_0000_0000 ∷ 0x4020_0000_0000_0000 ∷ 0 ∷ []);
@@ -385,7 +420,7 @@ SeamInside =
     ranFrom 1 (o .answer) (o .memory)
     ≡ (record {
       word = 1;
-      counts = 2 ∷ 1 ∷ 0 ∷ 0 ∷ 0 ∷ 2 ∷ 0 ∷ [];
+      counts = 2 ∷ 1 ∷ 0 ∷ 0 ∷ 0 ∷ 0 ∷ 0 ∷ 0 ∷ 2 ∷ 0 ∷ [];
       regions = floats (
           0 ∷ 0x3ff0_0000_0000_0000 ∷ 0x4010_0000_0000_0000 ∷ 0x4012_0000_0000_0000 ∷ 0 ∷ 0xbff0_0000_0000_0000 ∷ 0 ∷ 0x4010_0000_0000_0000 ∷ 0x3ff0_0000_0000_0000 ∷ 0 ∷
           0 ∷ 0x3ff0_0000_0000_0000 ∷ 0x3fe0_0000_0000_0000 ∷ 0x3ff0_0000_0000_0000 ∷ 0x4010_0000_0000_0000 ∷ 0xbff0_0000_0000_0000 ∷ 0 ∷ 0x4020_0000_0000_0000 ∷ 0x3ff0_0000_0000_0000 ∷ 0 ∷ []);

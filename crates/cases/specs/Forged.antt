@@ -6,6 +6,7 @@ use Prim.Native.Nat.{ℕ}
 use lib.ListN.{replicate}
 use Rattle.lists.specs.Members.{All}
 use Rattle.floats.specs.Floats.{zero64}
+use Rattle.verdicts.specs.declared.Test.the-variants.{Box}
 use Rattle.verdicts.specs.declared.Verdict.the-variants.{Settled}
 use Rattle.states.specs.declared.State.{State}
 use Rattle.states.specs.States.{Memory, memory}
@@ -19,27 +20,40 @@ pub record Forged : Type 0 where
   pub splits : ℕ
   pub unspent : ℕ
   pub settled : ℕ
+  pub boxes : ℕ
+  pub planes : ℕ
+  pub lines : ℕ
   pub given : ℕ
   pub depth : ℕ
   pub number : ℕ
 
+-- the nodes settled by box alone
 abbrev pub forged : (waiting visits splits unspent settled given depth number : ℕ) → Forged
-forged a b c d e f g n = record { waiting = a; visits = b; splits = c; unspent = d; settled = e; given = f; depth = g; number = n }
+forged a b c d e f g n = record { waiting = a; visits = b; splits = c; unspent = d; settled = e; boxes = e; planes = 0; lines = 0; given = f; depth = g; number = n }
+
+-- one node settled and one waiting after a split, with these tags
+abbrev pub tagged : (boxes planes lines number : ℕ) → Forged
+tagged b p l n = record { waiting = 1; visits = 2; splits = 1; unspent = 0; settled = 1; boxes = b; planes = p; lines = l; given = 0; depth = 1; number = n }
 
 abbrev pub stateFor : Forged → State
 stateFor f = record {
-  pairs = 1;
-  quota = 1;
-  waiting = f .waiting;
-  visits = f .visits;
-  splits = f .splits;
-  unspent = f .unspent;
-  settled = f .settled;
-  given = f .given;
+  tally = record {
+    pairs = 1;
+    quota = 1;
+    waiting = f .waiting;
+    visits = f .visits;
+    splits = f .splits;
+    unspent = f .unspent;
+    settled = f .settled;
+    boxes = f .boxes;
+    planes = f .planes;
+    lines = f .lines;
+    given = f .given;
+    stopped = false;
+  };
   width1 = 2;
   width2 = 2;
   gap = zero64;
-  stopped = false;
   terms = record { turn1 = false; turn2 = false; lo1 = zero64; hi1 = zero64; lo2 = zero64; hi2 = zero64 };
 }
 
@@ -48,7 +62,7 @@ abbrev pub memoryFor : Forged → Memory
 memoryFor f = memory (replicate 520 zero64) (replicate 520 zero64) (replicate 260 zero64) (replicate 65 (f .depth)) (replicate 20 zero64)
 
 abbrev pub Answered : Forged → Type 0
-Answered f = (steppedNumber (stepDef geometry (stateFor f) (memoryFor f) Settled .answer) ≡ f .number)
+Answered f = (steppedNumber (stepDef geometry (stateFor f) (memoryFor f) (Settled Box) .answer) ≡ f .number)
 
 abbrev pub forgeries : List Forged
 forgeries =
@@ -68,6 +82,13 @@ forgeries =
     -- splits + unspent ≠ S × P
     ∷ forged 1 0 0 0 0 0 0 19
     ∷ forged 1 0 0 2 0 0 0 19
+    -- the tags sum to settled; they don't, by one and by 2^32
+    ∷ tagged 1 0 0 0
+    ∷ tagged 0 1 0 0
+    ∷ tagged 0 0 1 0
+    ∷ tagged 0 0 0 19
+    ∷ tagged 1 0 1 19
+    ∷ tagged 4294967295 1 1 19
     -- none waits: 20 comes before 19
     ∷ forged 0 9 0 1 0 0 0 20
     ∷ []

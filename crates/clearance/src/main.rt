@@ -14,10 +14,10 @@ fn sheet_room() -> [u8; 16388]
 }
 
 // The longest answer.
-fn answer_room() -> [u8; 162368]
+fn answer_room() -> [u8; 162446]
     ensures { λ r. ⌜ length r ≡ longest ⌝ }
 {
-    [0u8; 162368]
+    [0u8; 162446]
 }
 
 // The answer on standard output; a line on standard error where that didn't take the whole of it.

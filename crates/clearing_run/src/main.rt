@@ -3,6 +3,7 @@ ghost use mathlib.Core.Path.{_≡_};
 ghost use Prim.Native.Nat.{_+_, _*_, _<_, _≤_};
 ghost use lib.ListN.{length};
 use boxes::Aabb;
+use verdicts::Test;
 use verdicts::Verdict;
 
 fn wide(x: u8) -> u64
@@ -87,13 +88,28 @@ fn print_flag(flag: bool) {
     }
 }
 
-fn print_verdict(v: Verdict) {
-    match v {
-        Verdict::Settled => io::write_all(1, b"settled"),
-        Verdict::Split => io::write_all(1, b"split"),
-        Verdict::Unseparated => io::write_all(1, b"unseparated"),
+fn print_test(t: Test) {
+    match t {
+        Test::Box => io::write_all(1, b"box"),
+        Test::Plane => io::write_all(1, b"plane"),
+        Test::Line => io::write_all(1, b"line"),
     }
     ;
+}
+
+// A settled pair by the test that passed.
+fn print_verdict(v: Verdict) {
+    match v {
+        Verdict::Settled(t) => {
+            print_test(t);
+        }
+        Verdict::Split => {
+            io::write_all(1, b"split");
+        }
+        Verdict::Unseparated => {
+            io::write_all(1, b"unseparated");
+        }
+    }
 }
 
 fn read_net(s: &mut [f64]) {

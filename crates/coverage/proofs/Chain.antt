@@ -12,7 +12,7 @@ use lib.Ieee.{Float}
 use Rattle.lists.specs.Parts.{block, patch}
 use Rattle.lists.proofs.Parts.{patch-length}
 use Rattle.verdicts.specs.declared.Verdict.{Verdict}
-use Rattle.machine.specs.Machine.{Node, Settling, Search, limit, depth, ended, hear}
+use Rattle.machine.specs.Machine.{Node, Settling, Search, limit, depth, ended, OwnVerdict, remember}
 use Rattle.machine.specs.Merge.{merged}
 use Rattle.machine.proofs.Cover.{at-most}
 use Rattle.regions.specs.declared.Region.{Region}
@@ -27,10 +27,10 @@ use Rattle.search.specs.Steps.{stepDef, judgeAt, ownDef}
 use Rattle.report.specs.declared.Reported.the-variants.{Told, Running, NoRoom as ReportNoRoom}
 use Rattle.report.specs.Reports.{Output, outRoom, written, reporting, leftRegions, rawAfter, writeReport, reportDef}
 use Rattle.coverage.specs.Calls.{Call, step, own, report, Answer, judged, reported, Outcome, lend, giveBack, call, Ran, runAll, stepOutcome, reportOutcome, backIn}
-use Rattle.opening.specs.Asked.{Asked, shape, pairsOf, start, stateOf, tally, netOf1, netOf2, depthOf, rawList, recordsFor}
-use Rattle.coverage.specs.Rules.{Ruled, lent, suffices, stepRule, testTop, ownRule, heard, reportRule, callRule, RuledAll, ruleAll}
+use Rattle.opening.specs.Asked.{Asked, shape, pairsOf, start, stateOf, resultOf, netOf1, netOf2, depthOf, rawList, recordsFor}
+use Rattle.coverage.specs.Rules.{Ruled, lent, suffices, stepRule, testTop, ownRule, afterOwn, reportRule, callRule, RuledAll, ruleAll}
 use Rattle.coverage.specs.Claim.{AllStored}
-use Rattle.coverage.proofs.Refine.{agree-stored, Room, room-of, fits-in, RoomOwn, room-own, start-block, agree-lend, agree-back, lend-back, lend-sizes, back-sizes, Numbers, Held, part1-is, part2-is, flats-length, map-append, length-mapped, raw-more, counts-tally, StepSim, unchanged, moved, search, ruleWith, top-depth, is-search, step-sim}
+use Rattle.coverage.proofs.Refine.{agree-stored, Room, room-of, fits-in, RoomOwn, room-own, start-block, agree-lend, agree-back, lend-back, lend-sizes, back-sizes, Numbers, Held, part1-is, part2-is, flats-length, map-append, length-mapped, raw-more, counts-result, StepSim, unchanged, moved, search, ruleWith, top-depth, is-search, step-sim}
 
 -- ---- between calls
 pub record Inv (q : Asked) (full : Sizes) (m : Search (shape q)) (u : Memory) : Type 0 where
@@ -107,18 +107,18 @@ module _ (q : Asked) (low : (w : ℕ) (l : List Float) → length l ≡ 4 * w �
       (step-sim q low upp m (lend n u) v (I .numbers) (held-lent q m n u (I .numbers) (I .held))))
 
   -- ---- the own verdict
-  pub own-fields : (l : List (Node (shape q))) (se : List (Settling (shape q))) (gi : List (Node (shape q))) (vi sp un : ℕ) (st to : Bool) (w : Memory)
-      → Numbers q (search q l se gi vi sp un st to) → (RoomOwn q (sizes w) → OwnHeld q w l)
-      → ownDef (q .geometry) (stateOf q (search q l se gi vi sp un st to)) w
-      ≡ cond (ended (shape q) (search q l se gi vi sp un st to)) OwnEnded (cond (enoughOwn (needed (stateOf q (start q))) (sizes w)) (testTop q l) OwnNoRoom)
-  own-fields l se gi vi sp un true to w N H = refl
-  own-fields [] se gi vi sp un false to w N H = refl
-  own-fields (n ∷ r) se gi vi sp un false to w N H =
-      go (enoughOwn (needed (stateOf q (start q))) (sizes w)) (isSearch (stateOf q (search q (n ∷ r) se gi vi sp un false to)) w) (room-own q (sizes w))
-      (λ (R : RoomOwn q (sizes w)). is-search q (search q (n ∷ r) se gi vi sp un false to) w N (H R .2))
+  pub own-fields : (l : List (Node (shape q))) (se : List (Settling (shape q))) (gi : List (Node (shape q))) (vi sp un : ℕ) (st : Bool) (ow : OwnVerdict) (w : Memory)
+      → Numbers q (search q l se gi vi sp un st ow) → (RoomOwn q (sizes w) → OwnHeld q w l)
+      → ownDef (q .geometry) (stateOf q (search q l se gi vi sp un st ow)) w
+      ≡ cond (ended (shape q) (search q l se gi vi sp un st ow)) OwnEnded (cond (enoughOwn (needed (stateOf q (start q))) (sizes w)) (testTop q l) OwnNoRoom)
+  own-fields l se gi vi sp un true ow w N H = refl
+  own-fields [] se gi vi sp un false ow w N H = refl
+  own-fields (n ∷ r) se gi vi sp un false ow w N H =
+      go (enoughOwn (needed (stateOf q (start q))) (sizes w)) (isSearch (stateOf q (search q (n ∷ r) se gi vi sp un false ow)) w) (room-own q (sizes w))
+      (λ (R : RoomOwn q (sizes w)). is-search q (search q (n ∷ r) se gi vi sp un false ow) w N (H R .2))
     where
       go : (e s : Bool) → (T e → RoomOwn q (sizes w)) → (RoomOwn q (sizes w) → T s)
-          → cond (e && s) (judgeAt (q .geometry) (suc (length r)) (stateOf q (search q (n ∷ r) se gi vi sp un false to)) w) OwnNoRoom
+          → cond (e && s) (judgeAt (q .geometry) (suc (length r)) (stateOf q (search q (n ∷ r) se gi vi sp un false ow)) w) OwnNoRoom
           ≡ cond e (testTop q (n ∷ r)) OwnNoRoom
       go false s f g = refl
       go true false f g = absurd (g (f tt))
@@ -134,7 +134,7 @@ module _ (q : Asked) (low : (w : ℕ) (l : List Float) → length l ≡ 4 * w �
 
   pub own-is : (m : Search (shape q)) (u : Memory) (n : Sizes) → Inv q full m u → ownDef (q .geometry) (stateOf q m) (lend n u) ≡ ownRule q full n m
   own-is m u n I =
-      own-fields (m .stack) (m .settled) (m .given) (m .visits) (m .splits) (m .unspent) (m .stopped) (m .told) (lend n u) (I .numbers)
+      own-fields (m .stack) (m .settled) (m .given) (m .visits) (m .splits) (m .unspent) (m .stopped) (m .own) (lend n u) (I .numbers)
       (own-lent (m .stack) n u (at-most (shape q) (pairsOf q) (m .stack) (I .numbers .counts .steep)) (I .held .nodes))
       ∙ ap (λ (s : Sizes). cond (ended (shape q) m) OwnEnded (cond (enoughOwn (needed (stateOf q (start q))) s) (testTop q (m .stack)) OwnNoRoom))
       (lend-sizes n u ∙ ap (lent n) (I .lengths))
@@ -192,7 +192,7 @@ module _ (q : Asked) (m : Search (shape q)) (w : Memory) (N : Numbers q m) (R : 
   write-sim : (out : Output)
       → StepSim q (reportOutcome (stateOf q m) (writeReport (q .geometry) (stateOf q m) w out))
       (record {
-        answer = reported (Told (wordFor (length (m .given)) (length (m .stack))) (tally q m) (length (merged merging (rawList q m))))
+        answer = reported (Told (wordFor (length (m .given)) (length (m .stack))) (resultOf q m) (length (merged merging (rawList q m))))
             (written (q .terms) (length (m .given) + length (m .stack)) (merged merging (rawList q m)) out);
         search = m;
       })
@@ -200,7 +200,7 @@ module _ (q : Asked) (m : Search (shape q)) (w : Memory) (N : Numbers q m) (R : 
   write-sim out =
       let X = leftRegions (q .geometry) (stateOf q m) (w .nets1) (w .nets2) (w .ranges) (length (m .stack)) in
       moved
-      (λ i. reported (Told (wordFor (length (m .given)) (length (m .stack))) (counts-tally q m i) (length (merged merging (raws-are i))))
+      (λ i. reported (Told (wordFor (length (m .given)) (length (m .stack))) (counts-result q m i) (length (merged merging (raws-are i))))
       (written (q .terms) (length (m .given) + length (m .stack)) (merged merging (raws-are i)) out))
       refl
       (record {
@@ -225,7 +225,7 @@ reportWith q e out m =
     cond (ended (shape q) m)
     (cond (e && outRoom (recordsFor q) out)
     (let raws = rawList q m in
-    reported (Told (wordFor (length (m .given)) (length (m .stack))) (tally q m) (length (merged merging raws)))
+    reported (Told (wordFor (length (m .given)) (length (m .stack))) (resultOf q m) (length (merged merging raws)))
     (written (q .terms) (length (m .given) + length (m .stack)) (merged merging raws) out))
     (reported ReportNoRoom out))
     (reported Running out)
@@ -237,7 +237,7 @@ module _ (q : Asked) (full : Sizes) where
       (writeReport (q .geometry) (stateOf q m) w out) (reporting ReportNoRoom w out)))
       (record {
         answer = cond (enough (needed (stateOf q (start q))) (sizes w) && outRoom (recordsFor q) out)
-            (reported (Told (wordFor (length (m .given)) (length (m .stack))) (tally q m) (length (merged merging (rawList q m))))
+            (reported (Told (wordFor (length (m .given)) (length (m .stack))) (resultOf q m) (length (merged merging (rawList q m))))
             (written (q .terms) (length (m .given) + length (m .stack)) (merged merging (rawList q m)) out))
             (reported ReportNoRoom out);
         search = m;
@@ -250,7 +250,7 @@ module _ (q : Asked) (full : Sizes) where
           → StepSim q (reportOutcome (stateOf q m) (cond (e && b && s) (writeReport (q .geometry) (stateOf q m) w out) (reporting ReportNoRoom w out)))
           (record {
             answer = cond (e && b)
-                (reported (Told (wordFor (length (m .given)) (length (m .stack))) (tally q m) (length (merged merging (rawList q m))))
+                (reported (Told (wordFor (length (m .given)) (length (m .stack))) (resultOf q m) (length (merged merging (rawList q m))))
                 (written (q .terms) (length (m .given) + length (m .stack)) (merged merging (rawList q m)) out))
                 (reported ReportNoRoom out);
             search = m;
@@ -260,17 +260,17 @@ module _ (q : Asked) (full : Sizes) where
       go true true false f g = absurd (g (f tt))
       go true true true f g = write-sim q m w N (f tt) (H (f tt)) out
 
-  pub report-fields : (l : List (Node (shape q))) (se : List (Settling (shape q))) (gi : List (Node (shape q))) (vi sp un : ℕ) (st to : Bool)
+  pub report-fields : (l : List (Node (shape q))) (se : List (Settling (shape q))) (gi : List (Node (shape q))) (vi sp un : ℕ) (st : Bool) (ow : OwnVerdict)
       (w : Memory) (out : Output)
-      → Numbers q (search q l se gi vi sp un st to) → (Room q (sizes w) → Held q (search q l se gi vi sp un st to) w)
-      → StepSim q (reportOutcome (stateOf q (search q l se gi vi sp un st to)) (reportDef (q .geometry) (stateOf q (search q l se gi vi sp un st to)) w out))
+      → Numbers q (search q l se gi vi sp un st ow) → (Room q (sizes w) → Held q (search q l se gi vi sp un st ow) w)
+      → StepSim q (reportOutcome (stateOf q (search q l se gi vi sp un st ow)) (reportDef (q .geometry) (stateOf q (search q l se gi vi sp un st ow)) w out))
       (record {
-        answer = reportWith q (enough (needed (stateOf q (start q))) (sizes w)) out (search q l se gi vi sp un st to);
-        search = search q l se gi vi sp un st to;
-      }) (search q l se gi vi sp un st to) w
-  report-fields l se gi vi sp un true to w out N H = report-ended (search q l se gi vi sp un true to) w out N H
-  report-fields [] se gi vi sp un false to w out N H = report-ended (search q [] se gi vi sp un false to) w out N H
-  report-fields (n ∷ r) se gi vi sp un false to w out N H = unchanged refl refl refl refl
+        answer = reportWith q (enough (needed (stateOf q (start q))) (sizes w)) out (search q l se gi vi sp un st ow);
+        search = search q l se gi vi sp un st ow;
+      }) (search q l se gi vi sp un st ow) w
+  report-fields l se gi vi sp un true ow w out N H = report-ended (search q l se gi vi sp un true ow) w out N H
+  report-fields [] se gi vi sp un false ow w out N H = report-ended (search q [] se gi vi sp un false ow) w out N H
+  report-fields (n ∷ r) se gi vi sp un false ow w out N H = unchanged refl refl refl refl
 
   pub report-next : (m : Search (shape q)) (u : Memory) (n : Sizes) (out : Output) → Inv q full m u
       → Follows q full (backIn n u (reportOutcome (stateOf q m) (reportDef (q .geometry) (stateOf q m) (lend n u) out)))
@@ -280,14 +280,14 @@ module _ (q : Asked) (full : Sizes) where
       (record { answer = reportRule q full n out m; search = m }) I
       (subst (λ (b : Bool). StepSim q (reportOutcome (stateOf q m) (reportDef (q .geometry) (stateOf q m) (lend n u) out))
       (record { answer = reportWith q b out m; search = m }) m (lend n u)) (suffices-is q full n u (I .lengths))
-      (report-fields (m .stack) (m .settled) (m .given) (m .visits) (m .splits) (m .unspent) (m .stopped) (m .told) (lend n u) out (I .numbers)
+      (report-fields (m .stack) (m .settled) (m .given) (m .visits) (m .splits) (m .unspent) (m .stopped) (m .own) (lend n u) out (I .numbers)
       (held-lent q m n u (I .numbers) (I .held))))
 
 -- ---- any call, and any list of calls
 module _ (q : Asked) (low : (w : ℕ) (l : List Float) → length l ≡ 4 * w → length (q .geometry .lowerNet l) ≡ 4 * w)
     (upp : (w : ℕ) (l : List Float) → length l ≡ 4 * w → length (q .geometry .upperNet l) ≡ 4 * w) (full : Sizes) where
-  pub hear-inv : (v : Verdict) (m : Search (shape q)) (u : Memory) → Inv q full m u → Inv q full (hear (shape q) v m) u
-  hear-inv v m u I = record {
+  pub remember-inv : (v : Verdict) (m : Search (shape q)) (u : Memory) → Inv q full m u → Inv q full (remember (shape q) v m) u
+  remember-inv v m u I = record {
     numbers =
         record
         { counts = record { balance = I .numbers .counts .balance; steep = I .numbers .counts .steep }; allowance = I .numbers .allowance; visited = I .numbers .visited };
@@ -295,21 +295,21 @@ module _ (q : Asked) (low : (w : ℕ) (l : List Float) → length l ≡ 4 * w �
     lengths = I .lengths;
   }
 
-  heard-next : (a : Own) (m : Search (shape q)) (u : Memory) → Inv q full m u → Inv q full (heard q a m) u
-  heard-next (Is v) m u I = hear-inv v m u I
-  heard-next OwnEnded m u I = I
-  heard-next OwnNoRoom m u I = I
+  own-next : (a : Own) (m : Search (shape q)) (u : Memory) → Inv q full m u → Inv q full (afterOwn q a m) u
+  own-next (Is v) m u I = remember-inv v m u I
+  own-next OwnEnded m u I = I
+  own-next OwnNoRoom m u I = I
 
-  heard-state : (a : Own) (m : Search (shape q)) → stateOf q m ≡ stateOf q (heard q a m)
-  heard-state (Is v) m = refl
-  heard-state OwnEnded m = refl
-  heard-state OwnNoRoom m = refl
+  own-state : (a : Own) (m : Search (shape q)) → stateOf q m ≡ stateOf q (afterOwn q a m)
+  own-state (Is v) m = refl
+  own-state OwnEnded m = refl
+  own-state OwnNoRoom m = refl
 
   pub call-next : (c : Call) (m : Search (shape q)) (u : Memory) → Inv q full m u → Follows q full (call (q .geometry) c (stateOf q m) u) (callRule q full c m)
   call-next (step v n) m u I = step-next q low upp full m u n v I
   call-next (own n) m u I =
       record
-      { answer = ap judged (own-is q low upp full m u n I); state = heard-state (ownRule q full n m) m; inv = heard-next (ownRule q full n m) m u I }
+      { answer = ap judged (own-is q low upp full m u n I); state = own-state (ownRule q full n m) m; inv = own-next (ownRule q full n m) m u I }
   call-next (report n out) m u I = report-next q full m u n out I
 
   pub record Chained (r : Ran) (a : RuledAll q) : Type 0 where

@@ -12,7 +12,7 @@ use lib.Ieee.{Float}
 use Rattle.lists.specs.Members.{Any, All}
 use Rattle.verdicts.specs.declared.Verdict.{Verdict}
 use Rattle.verdicts.specs.declared.Verdict.the-variants.{Settled, Split, Unseparated}
-use Rattle.machine.specs.Machine.{Node, Settling, Search, limit, depth, InNode, ended, divide, advance, isSettle}
+use Rattle.machine.specs.Machine.{Node, Settling, Search, limit, depth, InNode, ended, divide, advance, OwnVerdict, notSettled, settledBy, rememberedAs}
 use Rattle.machine.specs.Merge.{merged}
 use Rattle.machine.specs.Covered.{SetApart, Covered, byBoxes, bySettled, byGiven, byWaiting}
 use Rattle.regions.specs.declared.Word.{Word}
@@ -40,23 +40,23 @@ use Rattle.machine.specs.Marks.{Marked, marksOf}
 use Rattle.machine.proofs.Marks.{marked-only}
 use Rattle.stretches.specs.Stretches.{nearAt}
 use Rattle.stretches.proofs.Marked.{region-marks}
-use Rattle.opening.specs.Asked.{Asked, shape, pieces1, pieces2, pairsOf, start, stateOf, tally, rawList, netOf1, netOf2, openMemory, recordsFor}
+use Rattle.opening.specs.Asked.{Asked, shape, pieces1, pieces2, pairsOf, start, stateOf, resultOf, rawList, netOf1, netOf2, openMemory, recordsFor}
 use Rattle.opening.specs.Opens.{searchFor}
 use Rattle.coverage.specs.Calls.{Call, step, own as ownCall, Answer, stepped, reported, Outcome, stepOutcome, reportOutcome}
-use Rattle.coverage.specs.Rules.{Ruled, lent, suffices, sufficesOwn, stepRule, ownRule, heard, callRule, ruleAll}
+use Rattle.coverage.specs.Rules.{Ruled, lent, suffices, sufficesOwn, stepRule, ownRule, afterOwn, callRule, ruleAll}
 use Rattle.coverage.specs.Claim.{Fine, GoodReport}
 use Rattle.facts.proofs.Reflect.{as-true}
 use Rattle.states.proofs.Tests.{enough-own}
 use Rattle.coverage.specs.Complete.{turnCalls, loopCalls, looped, Ends, Passes, Clear, Reports, LoopEnds, CompleteIsClear, LoopReports, OneReport, NotClear}
 use Rattle.coverage.proofs.Refine.{StepSim, unchanged, moved, search, ruleWith, step-sim}
-use Rattle.coverage.proofs.Chain.{Inv, own-fields, hear-inv, reportWith, report-fields}
+use Rattle.coverage.proofs.Chain.{Inv, own-fields, remember-inv, reportWith, report-fields}
 use Rattle.coverage.proofs.Opening.{open-inv}
-use Rattle.coverage.proofs.Final.{Ok, Cleared, ok-advance, ok-hear, ok-start, stay-all, rule-append, word-exact, good-report}
+use Rattle.coverage.proofs.Final.{Ok, Cleared, ok-advance, ok-remember, ok-start, stay-all, rule-append, word-exact, good-report}
 use Rattle.coverage.proofs.Demand3.{opened-fresh}
 
--- every settled node was settled on the own verdict
+-- every settled node was settled on the own verdict, with its test as the tag
 abbrev AllOwn : (q : Asked) → List (Settling (shape q)) → Type 0
-AllOwn q l = All (λ (e : Settling (shape q)). T (e .own)) l
+AllOwn q l = All (λ (e : Settling (shape q)). e .own ≡ settledBy (e .tag)) l
 
 min-same : (n : ℕ) → min n n ≡ n
 min-same n = omega arith
@@ -93,47 +93,47 @@ module _ (q : Asked) (low : (w : ℕ) (l : List Float) → length l ≡ 4 * w �
   after-sim m u o r I (moved a s H z R N) = (a, record { numbers = N; held = H; lengths = z ∙ I .lengths })
 
   settled-own : (v : Verdict) (n : Node (shape q)) (r : List (Node (shape q))) (se : List (Settling (shape q))) (gi : List (Node (shape q))) (vi sp un : ℕ)
-      → AllOwn q se → AllOwn q (advance (shape q) v (search q (n ∷ r) se gi vi sp un false (isSettle (shape q) v)) .settled)
-  settled-own Settled n r se gi vi sp un h = (tt, h)
+      → AllOwn q se → AllOwn q (advance (shape q) v (search q (n ∷ r) se gi vi sp un false (rememberedAs (shape q) v)) .settled)
+  settled-own (Settled by) n r se gi vi sp un h = (refl, h)
   settled-own Unseparated n r se gi vi sp un h = h
   settled-own Split n r se gi vi sp un h = go (leb limit (depth (shape q) n)) un
     where
-      go : (b : Bool) (k : ℕ) → AllOwn q (divide (shape q) b k n r (search q (n ∷ r) se gi vi sp un false false) .settled)
+      go : (b : Bool) (k : ℕ) → AllOwn q (divide (shape q) b k n r (search q (n ∷ r) se gi vi sp un false notSettled) .settled)
       go true k = h
       go false zero = h
       go false (suc k) = h
 
-  lower-rest : (v : Verdict) (n : Node (shape q)) (r : List (Node (shape q))) (se : List (Settling (shape q))) (gi : List (Node (shape q))) (vi sp un k : ℕ) (to : Bool)
-      → rest q (search q (n ∷ r) se gi vi sp un false to) < suc k
-      → T (ended (shape q) (advance (shape q) v (search q (n ∷ r) se gi vi sp un false to))) ⊎
-      (rest q (advance (shape q) v (search q (n ∷ r) se gi vi sp un false to)) < k)
-  lower-rest Settled n r se gi vi sp un k to h = inr (omega arith)
-  lower-rest Unseparated n r se gi vi sp un k to h = inr (omega arith)
-  lower-rest Split n r se gi vi sp un k to h = go (leb limit (depth (shape q) n)) un h
+  lower-rest : (v : Verdict) (n : Node (shape q)) (r : List (Node (shape q))) (se : List (Settling (shape q))) (gi : List (Node (shape q))) (vi sp un k : ℕ) (ow : OwnVerdict)
+      → rest q (search q (n ∷ r) se gi vi sp un false ow) < suc k
+      → T (ended (shape q) (advance (shape q) v (search q (n ∷ r) se gi vi sp un false ow))) ⊎
+      (rest q (advance (shape q) v (search q (n ∷ r) se gi vi sp un false ow)) < k)
+  lower-rest (Settled by) n r se gi vi sp un k ow h = inr (omega arith)
+  lower-rest Unseparated n r se gi vi sp un k ow h = inr (omega arith)
+  lower-rest Split n r se gi vi sp un k ow h = go (leb limit (depth (shape q) n)) un h
     where
       go : (b : Bool) (j : ℕ) → 2 * j + suc (length r) < suc k
-          → T (ended (shape q) (divide (shape q) b j n r (search q (n ∷ r) se gi vi sp j false to))) ⊎
-          (rest q (divide (shape q) b j n r (search q (n ∷ r) se gi vi sp j false to)) < k)
+          → T (ended (shape q) (divide (shape q) b j n r (search q (n ∷ r) se gi vi sp j false ow))) ⊎
+          (rest q (divide (shape q) b j n r (search q (n ∷ r) se gi vi sp j false ow)) < k)
       go true j h = inr (omega arith)
       go false zero h = inl tt
       go false (suc j) h = inr (omega arith)
 
   -- one turn, lent the whole memory, as the rules answer it, and the turns after it
-  one-turn : (k : ℕ) (n : Node (shape q)) (r : List (Node (shape q))) (se : List (Settling (shape q))) (gi : List (Node (shape q))) (vi sp un : ℕ) (to : Bool)
+  one-turn : (k : ℕ) (n : Node (shape q)) (r : List (Node (shape q))) (se : List (Settling (shape q))) (gi : List (Node (shape q))) (vi sp un : ℕ) (ow : OwnVerdict)
       → let v = q .geometry .clearing (q .gap) (netOf1 q n) (netOf2 q n) in
-      turned-from (suc k) (search q (n ∷ r) se gi vi sp un false to)
-      ≡ turned-from k (advance (shape q) v (search q (n ∷ r) se gi vi sp un false (isSettle (shape q) v)))
-  one-turn k n r se gi vi sp un to =
+      turned-from (suc k) (search q (n ∷ r) se gi vi sp un false ow)
+      ≡ turned-from k (advance (shape q) v (search q (n ∷ r) se gi vi sp un false (rememberedAs (shape q) v)))
+  one-turn k n r se gi vi sp un ow =
       let need = needed (stateOf q (start q)) in
       let v = q .geometry .clearing (q .gap) (netOf1 q n) (netOf2 q n) in
-      let m0 = search q (n ∷ r) se gi vi sp un false to in
-      let m1 = search q (n ∷ r) se gi vi sp un false (isSettle (shape q) v) in
+      let m0 = search q (n ∷ r) se gi vi sp un false ow in
+      let m1 = search q (n ∷ r) se gi vi sp un false (rememberedAs (shape q) v) in
       let e1 : sufficesOwn q full full ≡ true = ap (enoughOwn need) (lent-whole full) ∙ enough-own need full room in
       let e2 : suffices q full full ≡ true = ap (enough need) (lent-whole full) ∙ room in
       let a : ownRule q full full m0 ≡ Is v = ap (λ (b : Bool). cond b (Is v) OwnNoRoom) e1 in
       let t : ruleAll q full (turnCalls full (ownRule q full full m0)) m0 .search ≡ ruleAll q full (ownCall full ∷ step v full ∷ []) m0 .search
       = ap (λ (o : Own). ruleAll q full (turnCalls full o) m0 .search) a in
-      let h : heard q (ownRule q full full m0) m0 ≡ m1 = ap (λ (o : Own). heard q o m0) a in
+      let h : afterOwn q (ownRule q full full m0) m0 ≡ m1 = ap (λ (o : Own). afterOwn q o m0) a in
       let g : stepRule q full v full m1 .search ≡ advance (shape q) v m1
       = ap (λ (b : Bool). cond {A = Ruled q} b (record { answer = stepped (Next (stateOf q (advance (shape q) v m1))); search = advance (shape q) v m1 })
       (record { answer = stepped NoRoom; search = m1 }) .search) e2 in
@@ -144,31 +144,31 @@ module _ (q : Asked) (low : (w : ℕ) (l : List Float) → length l ≡ 4 * w �
   turn : (k : ℕ)
       → ((m : Search (shape q)) (u : Memory) → Inv q full m u → Ok q m → AllOwn q (m .settled) → T (ended (shape q) m) ⊎ (rest q m < k)
       → Looped (turned-from k m) (runFor (q .geometry) k (stateOf q m) u))
-      → (l : List (Node (shape q))) (se : List (Settling (shape q))) (gi : List (Node (shape q))) (vi sp un : ℕ) (st to : Bool) (u : Memory)
-      → Inv q full (search q l se gi vi sp un st to) u → Ok q (search q l se gi vi sp un st to) → AllOwn q se
-      → T (ended (shape q) (search q l se gi vi sp un st to)) ⊎ (rest q (search q l se gi vi sp un st to) < suc k)
-      → Looped (turned-from (suc k) (search q l se gi vi sp un st to)) (runFor (q .geometry) (suc k) (stateOf q (search q l se gi vi sp un st to)) u)
-  turn k go l se gi vi sp un true to u I K O h =
-      let m = search q l se gi vi sp un true to in
+      → (l : List (Node (shape q))) (se : List (Settling (shape q))) (gi : List (Node (shape q))) (vi sp un : ℕ) (st : Bool) (ow : OwnVerdict) (u : Memory)
+      → Inv q full (search q l se gi vi sp un st ow) u → Ok q (search q l se gi vi sp un st ow) → AllOwn q se
+      → T (ended (shape q) (search q l se gi vi sp un st ow)) ⊎ (rest q (search q l se gi vi sp un st ow) < suc k)
+      → Looped (turned-from (suc k) (search q l se gi vi sp un st ow)) (runFor (q .geometry) (suc k) (stateOf q (search q l se gi vi sp un st ow)) u)
+  turn k go l se gi vi sp un true ow u I K O h =
+      let m = search q l se gi vi sp un true ow in
       subst (λ (x : Search (shape q)). Looped x (stepping (Next (stateOf q m)) u)) (sym (stay-all q full (loopCalls q full k m) m tt))
       (record { answer = refl; inv = I; ok = K; own = O; finished = tt })
-  turn k go [] se gi vi sp un false to u I K O h =
-      let m = search q [] se gi vi sp un false to in
+  turn k go [] se gi vi sp un false ow u I K O h =
+      let m = search q [] se gi vi sp un false ow in
       subst (λ (x : Search (shape q)). Looped x (stepping (Next (stateOf q m)) u)) (sym (stay-all q full (loopCalls q full k m) m tt))
       (record { answer = refl; inv = I; ok = K; own = O; finished = tt })
-  turn k go (n ∷ r) se gi vi sp un false to u I K O (inl t) = absurd t
-  turn k go (n ∷ r) se gi vi sp un false to u I K O (inr h) =
+  turn k go (n ∷ r) se gi vi sp un false ow u I K O (inl t) = absurd t
+  turn k go (n ∷ r) se gi vi sp un false ow u I K O (inr h) =
       let G = q .geometry in
       let v = G .clearing (q .gap) (netOf1 q n) (netOf2 q n) in
-      let m0 = search q (n ∷ r) se gi vi sp un false to in
-      let m1 = search q (n ∷ r) se gi vi sp un false (isSettle (shape q) v) in
+      let m0 = search q (n ∷ r) se gi vi sp un false ow in
+      let m1 = search q (n ∷ r) se gi vi sp un false (rememberedAs (shape q) v) in
       let m2 = advance (shape q) v m1 in
       let x = stateOf q m0 in
       let o = stepDef G x u v in
-      let I1 = hear-inv q low upp full v m0 u I in
+      let I1 = remember-inv q low upp full v m0 u I in
       let S = I .held .nodes in
       let e = ap (enough (needed (stateOf q (start q)))) (I .lengths) ∙ room in
-      let asked : ownDef G x u ≡ Is v = own-fields q low upp full (n ∷ r) se gi vi sp un false to u (I .numbers) (λ R. (S .0 .net1, S .0 .net2, S .0 .depth))
+      let asked : ownDef G x u ≡ Is v = own-fields q low upp full (n ∷ r) se gi vi sp un false ow u (I .numbers) (λ R. (S .0 .net1, S .0 .net2, S .0 .depth))
       ∙ ap (λ (b : Bool). cond b (Is v) OwnNoRoom) (enough-own (needed (stateOf q (start q))) (sizes u) e) in
       let z = after-sim m1 u (stepOutcome x o) (ruleWith q true v m1) I1
       (subst (λ (b : Bool). StepSim q (stepOutcome x o) (ruleWith q b v m1) m1 u) e (step-sim q low upp m1 u v (I1 .numbers) (λ R. I1 .held))) in
@@ -176,15 +176,15 @@ module _ (q : Asked) (low : (w : ℕ) (l : List Float) → length l ≡ 4 * w �
       let p : runFor G (suc k) x u ≡ runFor G k (stateOf q m2) (o .memory)
       = (λ i. turned (runFor G k) x (carriedOut G x u (asked i))) ∙ (λ i. turned (runFor G k) x (stepping (a i) (o .memory))) in
       subst (Looped (turned-from (suc k) m0)) (sym p)
-      (subst (λ (y : Search (shape q)). Looped y (runFor G k (stateOf q m2) (o .memory))) (sym (one-turn k n r se gi vi sp un to))
-      (go m2 (o .memory) (z .1) (ok-advance q v m1 (ok-hear q v m0 refl K)) (settled-own v n r se gi vi sp un O)
-      (lower-rest v n r se gi vi sp un k (isSettle (shape q) v) h)))
+      (subst (λ (y : Search (shape q)). Looped y (runFor G k (stateOf q m2) (o .memory))) (sym (one-turn k n r se gi vi sp un ow))
+      (go m2 (o .memory) (z .1) (ok-advance q v m1 (ok-remember q v m0 refl K)) (settled-own v n r se gi vi sp un O)
+      (lower-rest v n r se gi vi sp un k (rememberedAs (shape q) v) h)))
 
   loop : (k : ℕ) (m : Search (shape q)) (u : Memory) → Inv q full m u → Ok q m → AllOwn q (m .settled) → T (ended (shape q) m) ⊎ (rest q m < k)
       → Looped (turned-from k m) (runFor (q .geometry) k (stateOf q m) u)
   loop zero m u I K O (inl t) = record { answer = refl; inv = I; ok = K; own = O; finished = t }
   loop zero m u I K O (inr h) = absurd (omega arith)
-  loop (suc k) m u I K O h = turn k (loop k) (m .stack) (m .settled) (m .given) (m .visits) (m .splits) (m .unspent) (m .stopped) (m .told) u I K O h
+  loop (suc k) m u I K O h = turn k (loop k) (m .stack) (m .settled) (m .given) (m .visits) (m .splits) (m .unspent) (m .stopped) (m .own) u I K O h
 
   from-start : (u : Memory) → Fine q → Inv q full (start q) u → Looped (looped q full) (runDef (q .geometry) (stateOf q (start q)) u)
   unfolding looped
@@ -192,12 +192,12 @@ module _ (q : Asked) (low : (w : ℕ) (l : List Float) → length l ≡ 4 * w �
 
 -- ---- the word
 told-word : (G : Geometry) (x : State) (u : Memory) (out : Output) (w : Word) (c : Counts) (k : ℕ) → reportDef G x u out .answer ≡ Told w c k
-    → wordFor (x .given) (x .waiting) ≡ w
-told-word G x u out w c k e = go (over x) (enough (needed x) (sizes u) && outRoom (recordsOf x) out && isSearch x u) e
+    → wordFor (x .tally .given) (x .tally .waiting) ≡ w
+told-word G x u out w c k e = go (over (x .tally)) (enough (needed x) (sizes u) && outRoom (recordsOf (x .tally)) out && isSearch x u) e
   where
     go : (a b : Bool)
         → cond {A = Reporting} a (cond b (writeReport G x u out) (reporting ReportNoRoom u out)) (reporting Running u out) .answer ≡ Told w c k
-        → wordFor (x .given) (x .waiting) ≡ w
+        → wordFor (x .tally .given) (x .tally .waiting) ≡ w
     go true true e = cc
     go true false e = absurd (let z : _≡_ {A = ℕ} 0 1 = cc in omega arith)
     go false b e = absurd (let z : _≡_ {A = ℕ} 0 1 = cc in omega arith)
@@ -207,9 +207,9 @@ none-in P [] e h = h
 none-in P (x ∷ l) e h = absurd (omega arith)
 
 all-pass : (q : Asked) (l : List (Settling (shape q))) → All (Cleared q) l → AllOwn q l
-    → All (λ (e : Settling (shape q)). T (e .own) × Passes q (e .node)) l
+    → All (λ (e : Settling (shape q)). (e .own ≡ settledBy (e .tag)) × Passes q (e .node) (e .tag)) l
 all-pass q [] c o = tt
-all-pass q (e ∷ l) c o = ((o .0, c .0 (o .0)), all-pass q l (c .1) (o .1))
+all-pass q (e ∷ l) c o = ((o .0, c .0 (e .tag) (o .0)), all-pass q l (c .1) (o .1))
 
 clear-all : (q : Asked) (full : Sizes) → Ok q (looped q full) → AllOwn q (looped q full .settled)
     → length (looped q full .given) ≡ 0 → length (looped q full .stack) ≡ 0 → Clear q full
@@ -237,21 +237,21 @@ module _ (q : Asked) (full : Sizes) (room : enough (needed (stateOf q (start q))
     (I : Inv q full m w) (E : T (ended (shape q) m))
     (out : Output) (fits : outRoom (recordsFor q) out ≡ true) where
   told-all : _≡_ {A = Answer} (reported (reportDef (q .geometry) (stateOf q m) w out .answer) (reportDef (q .geometry) (stateOf q m) w out .output))
-      (reported (Told (wordFor (length (m .given)) (length (m .stack))) (tally q m) (length (merged merging (rawList q m))))
+      (reported (Told (wordFor (length (m .given)) (length (m .stack))) (resultOf q m) (length (merged merging (rawList q m))))
       (written (q .terms) (length (m .given) + length (m .stack)) (merged merging (rawList q m)) out))
   told-all =
       let o = reportOutcome (stateOf q m) (reportDef (q .geometry) (stateOf q m) w out) in
-      let S = report-fields q full (m .stack) (m .settled) (m .given) (m .visits) (m .splits) (m .unspent) (m .stopped) (m .told) w out (I .numbers) (λ R. I .held) in
+      let S = report-fields q full (m .stack) (m .settled) (m .given) (m .visits) (m .splits) (m .unspent) (m .stopped) (m .own) w out (I .numbers) (λ R. I .held) in
       sim-answer q o (record { answer = reportWith q (enough (needed (stateOf q (start q))) (sizes w)) out m; search = m }) m w S
       ∙ go (ended (shape q) m) (enough (needed (stateOf q (start q))) (sizes w)) (outRoom (recordsFor q) out) E
       (ap (enough (needed (stateOf q (start q)))) (I .lengths) ∙ room) fits
     where
       go : (a b c : Bool) → T a → b ≡ true → c ≡ true
           → cond {A = Answer} a (cond (b && c) (reported
-          (Told (wordFor (length (m .given)) (length (m .stack))) (tally q m) (length (merged merging (rawList q m))))
+          (Told (wordFor (length (m .given)) (length (m .stack))) (resultOf q m) (length (merged merging (rawList q m))))
           (written (q .terms) (length (m .given) + length (m .stack)) (merged merging (rawList q m)) out)) (reported ReportNoRoom out))
           (reported Running out)
-          ≡ reported (Told (wordFor (length (m .given)) (length (m .stack))) (tally q m) (length (merged merging (rawList q m))))
+          ≡ reported (Told (wordFor (length (m .given)) (length (m .stack))) (resultOf q m) (length (merged merging (rawList q m))))
           (written (q .terms) (length (m .given) + length (m .stack)) (merged merging (rawList q m)) out)
       go true true true t e f = refl
       go true true false t e f = absurd (false≢true f)
@@ -266,12 +266,12 @@ reports-all q full room w I K O E out fits =
     let e = told-all q full room m w I E out fits in
     record {
       word = wordFor (length (m .given)) (length (m .stack));
-      counts = tally q m;
+      counts = resultOf q m;
       regions = length (merged merging (rawList q m));
       told = same-answer _ _ _ _ e;
       good =
           subst
-          (λ (l : Output). GoodReport q m (wordFor (length (m .given)) (length (m .stack))) (tally q m) (length (merged merging (rawList q m))) l)
+          (λ (l : Output). GoodReport q m (wordFor (length (m .given)) (length (m .stack))) (resultOf q m) (length (merged merging (rawList q m))) l)
           (sym (same-out _ _ _ _ e)) (good-report q m out K E);
       pass = all-pass q (m .settled) (K .cleared) O;
     }
@@ -282,7 +282,7 @@ Claims q full x u =
     Ends q full (runDef (q .geometry) x u)
     × ((y : State) → runDef (q .geometry) x u .answer ≡ Next y → (out : Output) (c : Counts) (k : ℕ)
     → reportDef (q .geometry) y (runDef (q .geometry) x u .memory) out .answer ≡ Told Complete c k → Clear q full)
-    × ((y : State) → runDef (q .geometry) x u .answer ≡ Next y → (out : Output) → recordsOf x * 10 ≤ length (out .regions) → recordsOf x ≤ length (out .marks)
+    × ((y : State) → runDef (q .geometry) x u .answer ≡ Next y → (out : Output) → recordsOf (x .tally) * 10 ≤ length (out .regions) → recordsOf (x .tally) ≤ length (out .marks)
     → Reports q full (reportDef (q .geometry) y (runDef (q .geometry) x u .memory) out))
 
 pub same-next : (x y : State) → Next x ≡ Next y → x ≡ y
@@ -297,7 +297,7 @@ module _ (q : Asked) (u : Memory) (F : Fine q) (room : T (enough (needed (stateO
         λ y e out c k r.
             let s = same-next y (stateOf q (looped q (sizes u))) (sym e ∙ L .answer) in
             let w = told-word (q .geometry) y (runDef (q .geometry) (stateOf q (start q)) (openMemory q u) .memory) out Complete c k r in
-            let z = word-exact (length (looped q (sizes u) .given)) (length (looped q (sizes u) .stack)) .0 (subst (λ (x : State). wordFor (x .given) (x .waiting) ≡ Complete) s w) in
+            let z = word-exact (length (looped q (sizes u) .given)) (length (looped q (sizes u) .stack)) .0 (subst (λ (x : State). wordFor (x .tally .given) (x .tally .waiting) ≡ Complete) s w) in
             clear-all q (sizes u) (L .ok) (L .own) (z .0) (z .1),
         λ y e out h k.
             let s = same-next y (stateOf q (looped q (sizes u))) (sym e ∙ L .answer) in

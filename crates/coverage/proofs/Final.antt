@@ -13,11 +13,12 @@ use Rattle.floats.specs.Stations.{Piece}
 use Rattle.lists.specs.Members.{Any, All}
 use Rattle.lists.proofs.Members.{any-left, any-right, any-reverse, all-append, all-reverse}
 use Rattle.verdicts.specs.declared.Verdict.{Verdict}
+use Rattle.verdicts.specs.declared.Test.{Test}
 use Rattle.verdicts.specs.declared.Verdict.the-variants.{Settled, Split, Unseparated}
-use Rattle.machine.specs.Machine.{Node, Settling, Search, limit, half, partOf, depth, InNode, ended, divide, onTop, advance, isSettle, hear}
+use Rattle.machine.specs.Machine.{Node, Settling, Search, limit, half, partOf, depth, InNode, ended, divide, onTop, advance, OwnVerdict, notSettled, settledBy, rememberedAs, remember}
 use Rattle.machine.specs.Merge.{merged}
 use Rattle.machine.specs.Covered.{Covered, byBoxes, bySettled, byGiven, byWaiting}
-use Rattle.machine.proofs.Cover.{at-most, Halving, SoundNode, cover-advance, sound-advance, sound-fresh, cover-fresh, sound-descend}
+use Rattle.machine.proofs.Cover.{at-most, tags-sum, Halving, SoundNode, cover-advance, sound-advance, sound-fresh, cover-fresh, sound-descend}
 use Rattle.machine.proofs.Merged.{merged-off, Keeping, merged-has}
 use Rattle.floats.specs.Floats.{least, greatest, middle, zero64}
 use Rattle.floats.specs.Sizes.{Number, Within}
@@ -40,8 +41,8 @@ use Rattle.states.specs.States.{Memory, Sizes, sizes, needed, enough, allowance
 use Rattle.search.specs.Steps.{halves}
 use Rattle.report.specs.declared.Reported.the-variants.{Told, Running, NoRoom as ReportNoRoom}
 use Rattle.coverage.specs.Calls.{Call, step, own, report, Answer, stepped, judged, reported, runAll}
-use Rattle.opening.specs.Asked.{Asked, shape, pieces1, pieces2, In1, In2, pairsOf, start, stateOf, tally, netOf1, netOf2, openMemory, rawList, allowanceFor, recordsFor}
-use Rattle.coverage.specs.Rules.{Ruled, suffices, sufficesOwn, stepRule, testTop, ownRule, heard, reportRule, callRule, ruleAll}
+use Rattle.opening.specs.Asked.{Asked, shape, pieces1, pieces2, In1, In2, pairsOf, start, stateOf, resultOf, netOf1, netOf2, openMemory, rawList, allowanceFor, recordsFor}
+use Rattle.coverage.specs.Rules.{Ruled, suffices, sufficesOwn, stepRule, testTop, ownRule, afterOwn, reportRule, callRule, ruleAll}
 use Rattle.coverage.specs.Claim.{bound, Accounted, GoodAnswer, After, Fine, GoodReport}
 use Rattle.coverage.proofs.Refine.{flats-length, search}
 use Rattle.coverage.proofs.Chain.{chain}
@@ -98,7 +99,14 @@ off-comm g r h = subst (λ (b : Bool). T (not b)) (touch-comm g r) h
 
 -- ---- the search that the rules make
 abbrev pub Cleared : (q : Asked) → Settling (shape q) → Type 0
-Cleared q e = T (e .own) → q .geometry .clearing (q .gap) (netOf1 q (e .node)) (netOf2 q (e .node)) ≡ Settled
+Cleared q e = (t : Test) → e .own ≡ settledBy t → q .geometry .clearing (q .gap) (netOf1 q (e .node)) (netOf2 q (e .node)) ≡ Settled t
+
+-- an own verdict that is remembered has its one test
+forgotten : (t : Test) → notSettled ≡ settledBy t → ⊥
+forgotten t e = let z : _≡_ {A = ℕ} 0 1 = cc in omega arith
+
+same-test : (a b : Test) → settledBy a ≡ settledBy b → a ≡ b
+same-test a b e = cc
 
 -- the verdict is what the tests give for the top node
 abbrev pub Says : (q : Asked) → Verdict → List (Node (shape q)) → Type 0
@@ -110,7 +118,7 @@ pub record Ok (q : Asked) (m : Search (shape q)) : Type 0 where
   pub sound : All (SoundNode (shape q) (halving q)) (m .stack)
   pub soundGiven : All (SoundNode (shape q) (halving q)) (m .given)
   pub cleared : All (Cleared q) (m .settled)
-  pub honest : T (m .told) → Says q Settled (m .stack)
+  pub honest : (t : Test) → m .own ≡ settledBy t → Says q (Settled t) (m .stack)
 
 module _ (q : Asked) where
   given-divide : (d : Bool) (k : ℕ) (n : Node (shape q)) (r : List (Node (shape q))) (m : Search (shape q)) → SoundNode (shape q) (halving q) n
@@ -123,10 +131,10 @@ module _ (q : Asked) where
   given-top : (v : Verdict) (l : List (Node (shape q))) (m : Search (shape q)) → All (SoundNode (shape q) (halving q)) l
       → All (SoundNode (shape q) (halving q)) (m .given)
       → All (SoundNode (shape q) (halving q)) (onTop (shape q) v l m .given)
-  given-top Settled [] m w g = g
+  given-top (Settled by) [] m w g = g
   given-top Split [] m w g = g
   given-top Unseparated [] m w g = g
-  given-top Settled (n ∷ r) m w g = g
+  given-top (Settled by) (n ∷ r) m w g = g
   given-top Split (n ∷ r) m w g = given-divide (leb limit (depth (shape q) n)) (m .unspent) n r m (w .0) g
   given-top Unseparated (n ∷ r) m w g = all-append (SoundNode (shape q) (halving q)) (m .given) (n ∷ []) g (w .0, tt)
 
@@ -136,29 +144,29 @@ module _ (q : Asked) where
   clear-divide false zero n r m c = c
   clear-divide false (suc k) n r m c = c
 
-  clear-top : (v : Verdict) (l : List (Node (shape q))) (m : Search (shape q)) → (T (m .told) → Says q Settled l) → All (Cleared q) (m .settled)
+  clear-top : (v : Verdict) (l : List (Node (shape q))) (m : Search (shape q)) → ((t : Test) → m .own ≡ settledBy t → Says q (Settled t) l) → All (Cleared q) (m .settled)
       → All (Cleared q) (onTop (shape q) v l m .settled)
-  clear-top Settled [] m f c = c
+  clear-top (Settled by) [] m f c = c
   clear-top Split [] m f c = c
   clear-top Unseparated [] m f c = c
-  clear-top Settled (n ∷ r) m f c = (f, c)
+  clear-top (Settled by) (n ∷ r) m f c = (f, c)
   clear-top Split (n ∷ r) m f c = clear-divide (leb limit (depth (shape q) n)) (m .unspent) n r m c
   clear-top Unseparated (n ∷ r) m f c = c
 
-  -- a step forgets what it was told
-  fresh-divide : (d : Bool) (k : ℕ) (n : Node (shape q)) (r : List (Node (shape q))) (m : Search (shape q)) → divide (shape q) d k n r m .told ≡ false
+  -- a step forgets the own verdict
+  fresh-divide : (d : Bool) (k : ℕ) (n : Node (shape q)) (r : List (Node (shape q))) (m : Search (shape q)) → divide (shape q) d k n r m .own ≡ notSettled
   fresh-divide true k n r m = refl
   fresh-divide false zero n r m = refl
   fresh-divide false (suc k) n r m = refl
 
-  honest-top : (v : Verdict) (l : List (Node (shape q))) (m : Search (shape q)) → m .stack ≡ l → (T (m .told) → Says q Settled (m .stack))
-      → T (onTop (shape q) v l m .told) → Says q Settled (onTop (shape q) v l m .stack)
-  honest-top Settled [] m e f t = f t
-  honest-top Split [] m e f t = f t
-  honest-top Unseparated [] m e f t = f t
-  honest-top Settled (n ∷ r) m e f t = absurd t
-  honest-top Split (n ∷ r) m e f t = absurd (subst T (fresh-divide (leb limit (depth (shape q) n)) (m .unspent) n r m) t)
-  honest-top Unseparated (n ∷ r) m e f t = absurd t
+  honest-top : (v : Verdict) (l : List (Node (shape q))) (m : Search (shape q)) → m .stack ≡ l → ((t : Test) → m .own ≡ settledBy t → Says q (Settled t) (m .stack))
+      → (t : Test) → onTop (shape q) v l m .own ≡ settledBy t → Says q (Settled t) (onTop (shape q) v l m .stack)
+  honest-top (Settled by) [] m e f t o = f t o
+  honest-top Split [] m e f t o = f t o
+  honest-top Unseparated [] m e f t o = f t o
+  honest-top (Settled by) (n ∷ r) m e f t o = absurd (forgotten t o)
+  honest-top Split (n ∷ r) m e f t o = absurd (forgotten t (sym (fresh-divide (leb limit (depth (shape q) n)) (m .unspent) n r m) ∙ o))
+  honest-top Unseparated (n ∷ r) m e f t o = absurd (forgotten t o)
 
   pub ok-advance : (v : Verdict) (m : Search (shape q)) → Ok q m → Ok q (advance (shape q) v m)
   ok-advance v m k = record {
@@ -170,19 +178,19 @@ module _ (q : Asked) where
   }
 
   keep-covered : (v : Verdict) (m : Search (shape q)) (s t : Float) → Covered (shape q) (pieces1 q) (pieces2 q) m s t
-      → Covered (shape q) (pieces1 q) (pieces2 q) (hear (shape q) v m) s t
+      → Covered (shape q) (pieces1 q) (pieces2 q) (remember (shape q) v m) s t
   keep-covered v m s t (byBoxes h) = byBoxes h
   keep-covered v m s t (bySettled h) = bySettled h
   keep-covered v m s t (byGiven h) = byGiven h
   keep-covered v m s t (byWaiting h) = byWaiting h
 
-  said-settle : (v : Verdict) (l : List (Node (shape q))) → Says q v l → T (isSettle (shape q) v) → Says q Settled l
-  said-settle Settled l h t = h
-  said-settle Split l h t = absurd t
-  said-settle Unseparated l h t = absurd t
+  said-settle : (v : Verdict) (l : List (Node (shape q))) → Says q v l → (t : Test) → rememberedAs (shape q) v ≡ settledBy t → Says q (Settled t) l
+  said-settle (Settled by) l h t e = subst (λ (x : Test). Says q (Settled x) l) (same-test by t e) h
+  said-settle Split l h t e = absurd (forgotten t e)
+  said-settle Unseparated l h t e = absurd (forgotten t e)
 
-  pub ok-hear : (v : Verdict) (m : Search (shape q)) → Says q v (m .stack) → Ok q m → Ok q (hear (shape q) v m)
-  ok-hear v m h k = record {
+  pub ok-remember : (v : Verdict) (m : Search (shape q)) → Says q v (m .stack) → Ok q m → Ok q (remember (shape q) v m)
+  ok-remember v m h k = record {
     covered = λ s t a b. keep-covered v m s t (k .covered s t a b);
     sound = k .sound;
     soundGiven = k .soundGiven;
@@ -213,14 +221,14 @@ module _ (q : Asked) where
         go false true e = judged-inv (m .stack) v e
         go false false e = absurd (let z : _≡_ {A = ℕ} 0 1 = cc in omega arith)
 
-    ok-heard : (a : Own) (m : Search (shape q)) → ((v : Verdict) → a ≡ Is v → Says q v (m .stack)) → Ok q m → Ok q (heard q a m)
-    ok-heard (Is v) m f k = ok-hear v m (f v refl) k
-    ok-heard OwnEnded m f k = k
-    ok-heard OwnNoRoom m f k = k
+    ok-own : (a : Own) (m : Search (shape q)) → ((v : Verdict) → a ≡ Is v → Says q v (m .stack)) → Ok q m → Ok q (afterOwn q a m)
+    ok-own (Is v) m f k = ok-remember v m (f v refl) k
+    ok-own OwnEnded m f k = k
+    ok-own OwnNoRoom m f k = k
 
     ok-call : (c : Call) (m : Search (shape q)) → Ok q m → Ok q (callRule q full c m .search)
     ok-call (step v n) m k = ok-step v n m k
-    ok-call (own n) m k = ok-heard (ownRule q full n m) m (own-says n m) k
+    ok-call (own n) m k = ok-own (ownRule q full n m) m (own-says n m) k
     ok-call (report n out) m k = k
 
     ok-all : (cs : List Call) (m : Search (shape q)) → Ok q m → Ok q (ruleAll q full cs m .search)
@@ -282,7 +290,7 @@ slice-reads n out slice =
     ap (take (length out * 10)) (append-assoc (flats out) z rest) ∙ take-at (flats out) (z ++ rest) (length out * 10) (flats-length out)
 
 pub good-report : (q : Asked) (m : Search (shape q)) (out : Output) → Ok q m → T (ended (shape q) m)
-    → GoodReport q m (wordFor (length (m .given)) (length (m .stack))) (tally q m) (length (merged merging (rawList q m)))
+    → GoodReport q m (wordFor (length (m .given)) (length (m .stack))) (resultOf q m) (length (merged merging (rawList q m)))
     (written (q .terms) (length (m .given) + length (m .stack)) (merged merging (rawList q m)) out)
 good-report q m out k e =
     let raws = rawList q m in
@@ -297,6 +305,7 @@ good-report q m out k e =
       accounted = λ s t a b. account q m k s t (k .covered s t a b);
       disjoint = merged-off merging off-comm raws;
       marked = report-marked (seamOf1 (q .terms)) (seamOf2 (q .terms)) (merged merging raws) (out .marks);
+      tags = sym (tags-sum (shape q) (m .settled));
       exact =
           subst (λ (x : ℕ). (wordFor (length (m .given)) (length (m .stack)) ≡ Complete) ↔ ((length (m .given) ≡ 0) × (x ≡ 0)))
           (sym (left-ended (ended (shape q) m) (length (m .stack)) e)) (word-exact (length (m .given)) (length (m .stack)));
@@ -329,10 +338,10 @@ module _ (q : Asked) (full : Sizes) where
     where
       go : (a b : Bool)
           → (T a
-          → GoodReport q m (wordFor (length (m .given)) (length (m .stack))) (tally q m) (length (merged merging (rawList q m)))
+          → GoodReport q m (wordFor (length (m .given)) (length (m .stack))) (resultOf q m) (length (merged merging (rawList q m)))
           (written (q .terms) (length (m .given) + length (m .stack)) (merged merging (rawList q m)) out))
           → GoodAnswer q m (cond a (cond b
-          (reported (Told (wordFor (length (m .given)) (length (m .stack))) (tally q m) (length (merged merging (rawList q m))))
+          (reported (Told (wordFor (length (m .given)) (length (m .stack))) (resultOf q m) (length (merged merging (rawList q m))))
           (written (q .terms) (length (m .given) + length (m .stack)) (merged merging (rawList q m)) out))
           (reported ReportNoRoom out)) (reported Running out))
       go false b f = tt
@@ -350,10 +359,10 @@ module _ (q : Asked) (full : Sizes) where
       go true b t = refl
       go false b t = absurd t
 
-  stay-own : (n : Sizes) (m : Search (shape q)) → T (ended (shape q) m) → heard q (ownRule q full n m) m ≡ m
+  stay-own : (n : Sizes) (m : Search (shape q)) → T (ended (shape q) m) → afterOwn q (ownRule q full n m) m ≡ m
   stay-own n m t = go (ended (shape q) m) t
     where
-      go : (a : Bool) → T a → heard q (cond a OwnEnded (cond (sufficesOwn q full n) (testTop q (m .stack)) OwnNoRoom)) m ≡ m
+      go : (a : Bool) → T a → afterOwn q (cond a OwnEnded (cond (sufficesOwn q full n) (testTop q (m .stack)) OwnNoRoom)) m ≡ m
       go true t = refl
       go false t = absurd t
 
@@ -380,7 +389,7 @@ module _ (q : Asked) (full : Sizes) where
 
   good-call : (c : Call) (m : Search (shape q)) → Ok q m → GoodAnswer q (callRule q full c m .search) (callRule q full c m .answer)
   good-call (step v n) m k = good-step v n m (stepRule q full v n m .search)
-  good-call (own n) m k = good-own n m (heard q (ownRule q full n m) m)
+  good-call (own n) m k = good-own n m (afterOwn q (ownRule q full n m) m)
   good-call (report n out) m k = good-rep n out m k
 
   good-all : (cs : List Call) (m : Search (shape q)) → Ok q m → All (GoodAnswer q (ruleAll q full cs m .search)) (ruleAll q full cs m .answers)
@@ -400,7 +409,7 @@ ok-start q O = record {
       (all-pieces SoundPiece (q .width2) (q .lo2) (q .cuts2) (λ lo hi l x y e. (x, y)) (O .fine2));
   soundGiven = tt;
   cleared = tt;
-  honest = λ t. absurd t;
+  honest = λ t e. absurd (forgotten t e);
 }
 
 pub fresh-claim : (q : Asked) (u : Memory) → Fine q → T (enough (needed (stateOf q (start q))) (sizes u)) → (cs : List Call) →
@@ -415,10 +424,11 @@ fresh-claim q u O room cs =
       z .answers,
       record {
         covered = k .covered;
-        balance = subst (λ (x : State). x .pairs + x .splits ≡ x .settled + x .given + x .waiting) (sym (z .state)) (n .counts .balance);
-        atMost = subst (λ (x : State). x .waiting ≤ x .pairs + 64) (sym (z .state)) (at-most (shape q) (pairsOf q) (m .stack) (n .counts .steep));
-        allowance = subst (λ (x : State). x .splits + x .unspent ≡ allowanceOf x) (sym (z .state)) (n .allowance);
-        visited = subst (λ (x : State). x .visits ≡ x .splits + x .settled + x .given + cond (x .stopped) 1 0) (sym (z .state)) (n .visited);
+        balance = subst (λ (x : State). x .tally .pairs + x .tally .splits ≡ x .tally .settled + x .tally .given + x .tally .waiting) (sym (z .state)) (n .counts .balance);
+        atMost = subst (λ (x : State). x .tally .waiting ≤ x .tally .pairs + 64) (sym (z .state)) (at-most (shape q) (pairsOf q) (m .stack) (n .counts .steep));
+        tags = subst (λ (x : State). x .tally .settled ≡ x .tally .boxes + x .tally .planes + x .tally .lines) (sym (z .state)) (sym (tags-sum (shape q) (m .settled)));
+        allowance = subst (λ (x : State). x .tally .splits + x .tally .unspent ≡ allowanceOf (x .tally)) (sym (z .state)) (n .allowance);
+        visited = subst (λ (x : State). x .tally .visits ≡ x .tally .splits + x .tally .settled + x .tally .given + cond (x .tally .stopped) 1 0) (sym (z .state)) (n .visited);
         state = z .state;
         nodes = z .inv .held .nodes;
         givenUp = z .inv .held .raw;

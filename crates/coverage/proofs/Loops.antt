@@ -81,7 +81,7 @@ module _ (G : Geometry) (n : ℕ) (go : (x y : State) (u : Memory) → runFor G 
 
 runs : (G : Geometry) (n : ℕ) (x y : State) (u : Memory) → runFor G n x u .answer ≡ Next y → Runs G (loopOn G n x u) x u y (runFor G n x u .memory)
 runs G zero x y u e = (same-next x y e, refl)
-runs G (suc n) x y u e = turn G n (runs G n) x y u (over x) (ownDef G x u) e
+runs G (suc n) x y u e = turn G n (runs G n) x y u (over (x .tally)) (ownDef G x u) e
 
 pub run-is-calls : RunIsCalls
-run-is-calls x y u e = runs geometry (2 * x .unspent + x .waiting + 1) x y u e
+run-is-calls x y u e = runs geometry (2 * x .tally .unspent + x .tally .waiting + 1) x y u e

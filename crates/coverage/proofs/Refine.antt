@@ -13,10 +13,11 @@ use lib.Ieee.Fits.{and-l, and-r, and-i, eq→eqb}
 use Rattle.floats.specs.Stations.{Piece}
 use Rattle.lists.specs.Parts.{block, patch}
 use Rattle.lists.proofs.Parts.{patch-length, block-take, block-append, block-before, block-first, block-second}
+use Rattle.verdicts.specs.declared.Test.the-variants.{Box, Plane, Line}
 use Rattle.verdicts.specs.declared.Verdict.{Verdict}
 use Rattle.verdicts.specs.declared.Verdict.the-variants.{Settled, Split, Unseparated}
-use Rattle.machine.specs.Machine.{Shape, Node, Settling, Search, limit, partOf, depth, child, larger, none, ended, giveUp, divide, advance}
-use Rattle.machine.proofs.Cover.{child-depth, Deep, Counts as Balance, count-advance}
+use Rattle.machine.specs.Machine.{Shape, Node, OwnVerdict, Settling, Search, limit, partOf, depth, child, larger, none, ended, giveUp, divide, advance, tagged}
+use Rattle.machine.proofs.Cover.{child-depth, tags-sum, Deep, Counts as Balance, count-advance}
 use Rattle.regions.specs.declared.Region.{Region}
 use Rattle.regions.specs.Regions.{flat, flats}
 use Rattle.states.specs.declared.State.{State}
@@ -29,7 +30,7 @@ use Rattle.search.specs.Steps.{part1, part2}
 use Rattle.nodes.specs.Moves.{givenState}
 use Rattle.search.specs.Steps.{Stepping, stepping, halves, splitMemory, giveUpAt, divideAt, actOn, stepDef}
 use Rattle.coverage.specs.Calls.{stepped, Outcome, lend, giveBack, stepOutcome}
-use Rattle.opening.specs.Asked.{Asked, shape, pairsOf, start, stateOf, tally, depthOf, allowanceFor, recordsFor}
+use Rattle.opening.specs.Asked.{Asked, shape, pairsOf, start, stateOf, resultOf, depthOf, allowanceFor, recordsFor}
 use Rattle.coverage.specs.Rules.{Ruled, lent}
 use Rattle.coverage.specs.Claim.{Stored, AllStored}
 
@@ -343,16 +344,19 @@ zero-none : (S : Shape) (l : List (Node S)) → isZero (length l) ≡ none S l
 zero-none S [] = refl
 zero-none S (n ∷ r) = refl
 
-pub over-ended : (q : Asked) (m : Search (shape q)) → over (stateOf q m) ≡ ended (shape q) m
+pub over-ended : (q : Asked) (m : Search (shape q)) → over (stateOf q m .tally) ≡ ended (shape q) m
 over-ended q m = ap (λ (b : Bool). m .stopped || b) (zero-none (shape q) (m .stack))
 
-pub counts-tally : (q : Asked) (m : Search (shape q)) → countsOf (stateOf q m) ≡ tally q m
-counts-tally q m =
+pub counts-result : (q : Asked) (m : Search (shape q)) → countsOf (stateOf q m .tally) ≡ resultOf q m
+counts-result q m =
     λ i. record {
       pairs = pairsOf q;
       visits = m .visits;
       splits = m .splits;
       settled = length (m .settled);
+      boxes = tagged (shape q) Box (m .settled);
+      planes = tagged (shape q) Plane (m .settled);
+      lines = tagged (shape q) Line (m .settled);
       given = length (m .given);
       left = cond (over-ended q m i) (length (m .stack)) 0;
       unspent = m .unspent;
@@ -364,8 +368,8 @@ pub data StepSim (q : Asked) (o : Outcome) (r : Ruled q) (m : Search (shape q)) 
   moved : o .answer ≡ r .answer → o .state ≡ stateOf q (r .search) → Held q (r .search) (o .memory) → sizes (o .memory) ≡ sizes w → Room q (sizes w)
       → Numbers q (r .search) → StepSim q o r m w
 
-abbrev pub search : (q : Asked) → List (Node (shape q)) → List (Settling (shape q)) → List (Node (shape q)) → ℕ → ℕ → ℕ → Bool → Bool → Search (shape q)
-search q l se gi vi sp un st to = record { stack = l; settled = se; given = gi; visits = vi; splits = sp; unspent = un; stopped = st; told = to }
+abbrev pub search : (q : Asked) → List (Node (shape q)) → List (Settling (shape q)) → List (Node (shape q)) → ℕ → ℕ → ℕ → Bool → OwnVerdict → Search (shape q)
+search q l se gi vi sp un st ow = record { stack = l; settled = se; given = gi; visits = vi; splits = sp; unspent = un; stopped = st; own = ow }
 
 abbrev pub ruleWith : (q : Asked) → Bool → Verdict → Search (shape q) → Ruled q
 ruleWith q e v m =
@@ -377,37 +381,42 @@ accepted q m = record { answer = stepped (Next (stateOf q m)); search = m }
 
 module _ (q : Asked) (low : (w : ℕ) (l : List Float) → length l ≡ 4 * w → length (q .geometry .lowerNet l) ≡ 4 * w)
     (upp : (w : ℕ) (l : List Float) → length l ≡ 4 * w → length (q .geometry .upperNet l) ≡ 4 * w) where
-  module _ (n : Node (shape q)) (r : List (Node (shape q))) (se : List (Settling (shape q))) (gi : List (Node (shape q))) (vi sp un : ℕ) (to : Bool) (w : Memory)
-      (N : Numbers q (search q (n ∷ r) se gi vi sp un false to)) (R : Room q (sizes w)) (H : Held q (search q (n ∷ r) se gi vi sp un false to) w) where
+  module _ (n : Node (shape q)) (r : List (Node (shape q))) (se : List (Settling (shape q))) (gi : List (Node (shape q))) (vi sp un : ℕ) (ow : OwnVerdict) (w : Memory)
+      (N : Numbers q (search q (n ∷ r) se gi vi sp un false ow)) (R : Room q (sizes w)) (H : Held q (search q (n ∷ r) se gi vi sp un false ow) w) where
     given-fits : suc (length gi) ≤ recordsFor q
     given-fits = let b = N .counts .balance in let a = N .allowance in omega arith
 
     raw-fits : suc (length gi) * 10 ≤ length (w .raw)
     raw-fits = fits-in (suc (length gi)) (recordsFor q) 10 (length (w .raw)) given-fits (R .raw)
 
-    give-sim : StepSim q (stepOutcome (stateOf q (search q (n ∷ r) se gi vi sp un false to))
-        (giveUpAt (q .geometry) (length r) (stateOf q (search q (n ∷ r) se gi vi sp un false to)) w (partOf (shape q) (n .a))
+    give-sim : StepSim q (stepOutcome (stateOf q (search q (n ∷ r) se gi vi sp un false ow))
+        (giveUpAt (q .geometry) (length r) (stateOf q (search q (n ∷ r) se gi vi sp un false ow)) w (partOf (shape q) (n .a))
         (partOf (shape q) (n .b))))
-        (accepted q (giveUp (shape q) n r (search q (n ∷ r) se gi vi sp un false to))) (search q (n ∷ r) se gi vi sp un false to) w
+        (accepted q (giveUp (shape q) n r (search q (n ∷ r) se gi vi sp un false ow))) (search q (n ∷ r) se gi vi sp un false ow) w
     give-sim =
-        let m' = giveUp (shape q) n r (search q (n ∷ r) se gi vi sp un false to) in
+        let m' = giveUp (shape q) n r (search q (n ∷ r) se gi vi sp un false ow) in
         let g1 : length (gi ++ (n ∷ [])) ≡ suc (length gi) = length-append gi (n ∷ []) ∙ native.Mathlib.Numerals.add-one (length gi) in
         let c10 : suc (length gi) * 10 ≡ length gi * 10 + 10 = suc-mul (length gi) 10 in
         let rf = raw-fits in
-        let st : givenState (length r) (stateOf q (search q (n ∷ r) se gi vi sp un false to)) ≡ stateOf q m' =
+        let st : givenState (length r) (stateOf q (search q (n ∷ r) se gi vi sp un false ow)) ≡ stateOf q m' =
         λ i. record {
-          pairs = pairsOf q;
-          quota = q .quota;
-          waiting = length r;
-          visits = suc vi;
-          splits = sp;
-          unspent = un;
-          settled = length se;
-          given = sym g1 i;
+          tally = record {
+            pairs = pairsOf q;
+            quota = q .quota;
+            waiting = length r;
+            visits = suc vi;
+            splits = sp;
+            unspent = un;
+            settled = length se;
+            boxes = tagged (shape q) Box se;
+            planes = tagged (shape q) Plane se;
+            lines = tagged (shape q) Line se;
+            given = sym g1 i;
+            stopped = false;
+          };
           width1 = q .width1;
           width2 = q .width2;
           gap = q .gap;
-          stopped = false;
           terms = q .terms;
         } in
         moved
@@ -428,27 +437,27 @@ module _ (q : Asked) (low : (w : ℕ) (l : List Float) → length l ≡ 4 * w �
         })
         R
         (record {
-          counts = count-advance (shape q) (pairsOf q) Unseparated (search q (n ∷ r) se gi vi sp un false to) (N .counts);
+          counts = count-advance (shape q) (pairsOf q) Unseparated (search q (n ∷ r) se gi vi sp un false ow) (N .counts);
           allowance = N .allowance;
           visited = let v = N .visited in omega arith;
         })
 
-    stop-sim : Numbers q (divide (shape q) false zero n r (search q (n ∷ r) se gi vi sp un false to))
-        → StepSim q (stepOutcome (stateOf q (search q (n ∷ r) se gi vi sp un false to))
-        (divideAt (q .geometry) false zero (length r) (stateOf q (search q (n ∷ r) se gi vi sp un false to)) w (partOf (shape q) (n .a))
+    stop-sim : Numbers q (divide (shape q) false zero n r (search q (n ∷ r) se gi vi sp un false ow))
+        → StepSim q (stepOutcome (stateOf q (search q (n ∷ r) se gi vi sp un false ow))
+        (divideAt (q .geometry) false zero (length r) (stateOf q (search q (n ∷ r) se gi vi sp un false ow)) w (partOf (shape q) (n .a))
         (partOf (shape q) (n .b)) (depth (shape q) n)))
-        (accepted q (divide (shape q) false zero n r (search q (n ∷ r) se gi vi sp un false to))) (search q (n ∷ r) se gi vi sp un false to) w
+        (accepted q (divide (shape q) false zero n r (search q (n ∷ r) se gi vi sp un false ow))) (search q (n ∷ r) se gi vi sp un false ow) w
     stop-sim K =
-        let m' = divide (shape q) false zero n r (search q (n ∷ r) se gi vi sp un false to) in
+        let m' = divide (shape q) false zero n r (search q (n ∷ r) se gi vi sp un false ow) in
         moved refl refl (record { nodes = H .nodes; raw = H .raw }) refl R K
 
-    split-sim : (s : ℕ) → depth (shape q) n < limit → Numbers q (divide (shape q) false (suc s) n r (search q (n ∷ r) se gi vi sp un false to))
-        → StepSim q (stepOutcome (stateOf q (search q (n ∷ r) se gi vi sp un false to))
-        (divideAt (q .geometry) false (suc s) (length r) (stateOf q (search q (n ∷ r) se gi vi sp un false to)) w (partOf (shape q) (n .a))
+    split-sim : (s : ℕ) → depth (shape q) n < limit → Numbers q (divide (shape q) false (suc s) n r (search q (n ∷ r) se gi vi sp un false ow))
+        → StepSim q (stepOutcome (stateOf q (search q (n ∷ r) se gi vi sp un false ow))
+        (divideAt (q .geometry) false (suc s) (length r) (stateOf q (search q (n ∷ r) se gi vi sp un false ow)) w (partOf (shape q) (n .a))
         (partOf (shape q) (n .b)) (depth (shape q) n)))
-        (accepted q (divide (shape q) false (suc s) n r (search q (n ∷ r) se gi vi sp un false to))) (search q (n ∷ r) se gi vi sp un false to) w
+        (accepted q (divide (shape q) false (suc s) n r (search q (n ∷ r) se gi vi sp un false ow))) (search q (n ∷ r) se gi vi sp un false ow) w
     split-sim s d K =
-        let m' = divide (shape q) false (suc s) n r (search q (n ∷ r) se gi vi sp un false to) in
+        let m' = divide (shape q) false (suc s) n r (search q (n ∷ r) se gi vi sp un false ow) in
         let dp = N .counts .steep .0 in
         let fit : suc (suc (length r)) ≤ pairsOf q + limit = omega arith in
         let z = H .nodes .0 in
@@ -461,50 +470,50 @@ module _ (q : Asked) (low : (w : ℕ) (l : List Float) → length l ≡ 4 * w �
         (split-sizes q low upp (length r) w n fit R z) R K
 
     -- the numbers after a Split
-    divide-numbers : (b : Bool) (k : ℕ) → un ≡ k → Balance (shape q) (pairsOf q) (divide (shape q) b k n r (search q (n ∷ r) se gi vi sp un false to))
-        → Numbers q (divide (shape q) b k n r (search q (n ∷ r) se gi vi sp un false to))
+    divide-numbers : (b : Bool) (k : ℕ) → un ≡ k → Balance (shape q) (pairsOf q) (divide (shape q) b k n r (search q (n ∷ r) se gi vi sp un false ow))
+        → Numbers q (divide (shape q) b k n r (search q (n ∷ r) se gi vi sp un false ow))
     divide-numbers true k e c = record { counts = c; allowance = N .allowance; visited = let v = N .visited in let g = length-append gi (n ∷ []) in omega arith }
     divide-numbers false zero e c = record { counts = c; allowance = let a = N .allowance in omega arith; visited = let v = N .visited in omega arith }
     divide-numbers false (suc k) e c = record { counts = c; allowance = let a = N .allowance in omega arith; visited = let v = N .visited in omega arith }
 
     divide-sim : (b : Bool) (k : ℕ) → un ≡ k → (T (not b) → depth (shape q) n < limit)
-        → Balance (shape q) (pairsOf q) (divide (shape q) b k n r (search q (n ∷ r) se gi vi sp un false to))
-        → StepSim q (stepOutcome (stateOf q (search q (n ∷ r) se gi vi sp un false to))
-        (divideAt (q .geometry) b k (length r) (stateOf q (search q (n ∷ r) se gi vi sp un false to)) w (partOf (shape q) (n .a))
+        → Balance (shape q) (pairsOf q) (divide (shape q) b k n r (search q (n ∷ r) se gi vi sp un false ow))
+        → StepSim q (stepOutcome (stateOf q (search q (n ∷ r) se gi vi sp un false ow))
+        (divideAt (q .geometry) b k (length r) (stateOf q (search q (n ∷ r) se gi vi sp un false ow)) w (partOf (shape q) (n .a))
         (partOf (shape q) (n .b)) (depth (shape q) n)))
-        (accepted q (divide (shape q) b k n r (search q (n ∷ r) se gi vi sp un false to))) (search q (n ∷ r) se gi vi sp un false to) w
+        (accepted q (divide (shape q) b k n r (search q (n ∷ r) se gi vi sp un false ow))) (search q (n ∷ r) se gi vi sp un false ow) w
     divide-sim true k e f c = give-sim
     divide-sim false zero e f c = stop-sim (divide-numbers false zero e c)
     divide-sim false (suc k) e f c = split-sim k (f tt) (divide-numbers false (suc k) e c)
 
     -- the top node's parts and depth, as read
     at-parts : (F : Piece → Piece → ℕ → Stepping) (R' : Ruled q)
-        → StepSim q (stepOutcome (stateOf q (search q (n ∷ r) se gi vi sp un false to))
-        (F (partOf (shape q) (n .a)) (partOf (shape q) (n .b)) (depth (shape q) n))) R' (search q (n ∷ r) se gi vi sp un false to) w
-        → StepSim q (stepOutcome (stateOf q (search q (n ∷ r) se gi vi sp un false to))
-        (F (part1 (stateOf q (search q (n ∷ r) se gi vi sp un false to)) w (length r))
-        (part2 (stateOf q (search q (n ∷ r) se gi vi sp un false to)) w (length r)) (depthAt (w .depths) (length r)))) R'
-        (search q (n ∷ r) se gi vi sp un false to) w
+        → StepSim q (stepOutcome (stateOf q (search q (n ∷ r) se gi vi sp un false ow))
+        (F (partOf (shape q) (n .a)) (partOf (shape q) (n .b)) (depth (shape q) n))) R' (search q (n ∷ r) se gi vi sp un false ow) w
+        → StepSim q (stepOutcome (stateOf q (search q (n ∷ r) se gi vi sp un false ow))
+        (F (part1 (stateOf q (search q (n ∷ r) se gi vi sp un false ow)) w (length r))
+        (part2 (stateOf q (search q (n ∷ r) se gi vi sp un false ow)) w (length r)) (depthAt (w .depths) (length r)))) R'
+        (search q (n ∷ r) se gi vi sp un false ow) w
     at-parts F R' h =
-        let m = search q (n ∷ r) se gi vi sp un false to in
+        let m = search q (n ∷ r) se gi vi sp un false ow in
         let z = H .nodes .0 in
-        subst (λ (o : Stepping). StepSim q (stepOutcome (stateOf q (search q (n ∷ r) se gi vi sp un false to)) o) R' m w)
+        subst (λ (o : Stepping). StepSim q (stepOutcome (stateOf q (search q (n ∷ r) se gi vi sp un false ow)) o) R' m w)
         (λ i. F (sym (part1-is q m w (length r) n z) i) (sym (part2-is q m w (length r) n z) i) (sym (depth-is q w (length r) n z) i))
         h
 
     act-sim : (v : Verdict)
-        → StepSim q (stepOutcome (stateOf q (search q (n ∷ r) se gi vi sp un false to))
-        (actOn (q .geometry) (suc (length r)) v (stateOf q (search q (n ∷ r) se gi vi sp un false to)) w))
-        (accepted q (advance (shape q) v (search q (n ∷ r) se gi vi sp un false to))) (search q (n ∷ r) se gi vi sp un false to) w
-    act-sim Settled =
-        let m = search q (n ∷ r) se gi vi sp un false to in
+        → StepSim q (stepOutcome (stateOf q (search q (n ∷ r) se gi vi sp un false ow))
+        (actOn (q .geometry) (suc (length r)) v (stateOf q (search q (n ∷ r) se gi vi sp un false ow)) w))
+        (accepted q (advance (shape q) v (search q (n ∷ r) se gi vi sp un false ow))) (search q (n ∷ r) se gi vi sp un false ow) w
+    act-sim (Settled by) =
+        let m = search q (n ∷ r) se gi vi sp un false ow in
         moved refl refl (record { nodes = H .nodes .1; raw = H .raw }) refl R
-        (record { counts = count-advance (shape q) (pairsOf q) Settled m (N .counts); allowance = N .allowance; visited = let v = N .visited in omega arith })
+        (record { counts = count-advance (shape q) (pairsOf q) (Settled by) m (N .counts); allowance = N .allowance; visited = let v = N .visited in omega arith })
     act-sim Unseparated =
-        at-parts (λ p p' d. giveUpAt (q .geometry) (length r) (stateOf q (search q (n ∷ r) se gi vi sp un false to)) w p p')
-        (accepted q (giveUp (shape q) n r (search q (n ∷ r) se gi vi sp un false to))) give-sim
+        at-parts (λ p p' d. giveUpAt (q .geometry) (length r) (stateOf q (search q (n ∷ r) se gi vi sp un false ow)) w p p')
+        (accepted q (giveUp (shape q) n r (search q (n ∷ r) se gi vi sp un false ow))) give-sim
     act-sim Split =
-        let m = search q (n ∷ r) se gi vi sp un false to in
+        let m = search q (n ∷ r) se gi vi sp un false ow in
         at-parts (λ p p' d. divideAt (q .geometry) (leb limit d) un (length r) (stateOf q m) w p p' d)
         (accepted q (divide (shape q) (leb limit (depth (shape q) n)) un n r m))
         (divide-sim (leb limit (depth (shape q) n)) un refl (nleb→lt limit (depth (shape q) n)) (count-advance (shape q) (pairsOf q) Split m (N .counts)))
@@ -534,41 +543,43 @@ one-at-most false = omega arith
 pub is-search : (q : Asked) (m : Search (shape q)) (w : Memory) → Numbers q m → TopDepth q w (m .stack) → T (isSearch (stateOf q m) w)
 is-search q m w N z =
     let x = stateOf q m in
-    let b1 = topFits (x .pairs) (x .waiting) (topDepth (x .waiting) (w .depths)) in
-    let b2 = eqb (x .pairs + x .splits) (x .settled + x .given + x .waiting) in
-    let b3 = eqb (x .splits + x .unspent) (allowanceOf x) in
-    let b4 = leb (x .visits) (x .splits + x .settled + x .given + 1) in
-    and-i b1 (b2 && (b3 && b4)) (topFits-is q (m .stack) w (N .counts .steep) z)
-    (and-i b2 (b3 && b4) (eq→eqb (N .counts .balance))
-    (and-i b3 b4 (eq→eqb (N .allowance))
-    (le→leb (m .visits) (m .splits + length (m .settled) + length (m .given) + 1) (let v = N .visited in let h = one-at-most (m .stopped) in omega arith))))
+    let b1 = topFits (x .tally .pairs) (x .tally .waiting) (topDepth (x .tally .waiting) (w .depths)) in
+    let b2 = eqb (x .tally .pairs + x .tally .splits) (x .tally .settled + x .tally .given + x .tally .waiting) in
+    let b3 = eqb (x .tally .splits + x .tally .unspent) (allowanceOf (x .tally)) in
+    let b4 = eqb (x .tally .settled) (x .tally .boxes + x .tally .planes + x .tally .lines) in
+    let b5 = leb (x .tally .visits) (x .tally .splits + x .tally .settled + x .tally .given + 1) in
+    and-i b1 (b2 && (b3 && (b4 && b5))) (topFits-is q (m .stack) w (N .counts .steep) z)
+    (and-i b2 (b3 && (b4 && b5)) (eq→eqb (N .counts .balance))
+    (and-i b3 (b4 && b5) (eq→eqb (N .allowance))
+    (and-i b4 b5 (eq→eqb (sym (tags-sum (shape q) (m .settled))))
+    (le→leb (m .visits) (m .splits + length (m .settled) + length (m .given) + 1) (let v = N .visited in let h = one-at-most (m .stopped) in omega arith)))))
 
 -- ---- a step on the memory that is lent
 module _ (q : Asked) (low : (w : ℕ) (l : List Float) → length l ≡ 4 * w → length (q .geometry .lowerNet l) ≡ 4 * w)
     (upp : (w : ℕ) (l : List Float) → length l ≡ 4 * w → length (q .geometry .upperNet l) ≡ 4 * w) where
-  step-fields : (l : List (Node (shape q))) (se : List (Settling (shape q))) (gi : List (Node (shape q))) (vi sp un : ℕ) (st to : Bool) (w : Memory) (v : Verdict)
-      → Numbers q (search q l se gi vi sp un st to) → (Room q (sizes w) → Held q (search q l se gi vi sp un st to) w)
+  step-fields : (l : List (Node (shape q))) (se : List (Settling (shape q))) (gi : List (Node (shape q))) (vi sp un : ℕ) (st : Bool) (ow : OwnVerdict) (w : Memory) (v : Verdict)
+      → Numbers q (search q l se gi vi sp un st ow) → (Room q (sizes w) → Held q (search q l se gi vi sp un st ow) w)
       → StepSim q
-      (stepOutcome (stateOf q (search q l se gi vi sp un st to)) (stepDef (q .geometry) (stateOf q (search q l se gi vi sp un st to)) w v))
-      (ruleWith q (enough (needed (stateOf q (start q))) (sizes w)) v (search q l se gi vi sp un st to)) (search q l se gi vi sp un st to) w
-  step-fields l se gi vi sp un true to w v N H = unchanged refl refl refl refl
-  step-fields [] se gi vi sp un false to w v N H = unchanged refl refl refl refl
-  step-fields (n ∷ r) se gi vi sp un false to w v N H =
+      (stepOutcome (stateOf q (search q l se gi vi sp un st ow)) (stepDef (q .geometry) (stateOf q (search q l se gi vi sp un st ow)) w v))
+      (ruleWith q (enough (needed (stateOf q (start q))) (sizes w)) v (search q l se gi vi sp un st ow)) (search q l se gi vi sp un st ow) w
+  step-fields l se gi vi sp un true ow w v N H = unchanged refl refl refl refl
+  step-fields [] se gi vi sp un false ow w v N H = unchanged refl refl refl refl
+  step-fields (n ∷ r) se gi vi sp un false ow w v N H =
       go (enough (needed (stateOf q (start q))) (sizes w)) (isSearch (stateOf q m) w) (room-of q (sizes w))
       (λ (R : Room q (sizes w)). is-search q m w N (top-depth q w (m .stack) (H R .nodes)))
     where
       m : Search (shape q)
-      m = search q (n ∷ r) se gi vi sp un false to
+      m = search q (n ∷ r) se gi vi sp un false ow
 
       go : (e s : Bool) → (T e → Room q (sizes w)) → (Room q (sizes w) → T s)
-          → StepSim q (stepOutcome (stateOf q (search q (n ∷ r) se gi vi sp un false to))
-          (cond (e && s) (actOn (q .geometry) (suc (length r)) v (stateOf q (search q (n ∷ r) se gi vi sp un false to)) w) (stepping NoRoom w)))
-          (cond e (accepted q (advance (shape q) v (search q (n ∷ r) se gi vi sp un false to)))
-          (record { answer = stepped NoRoom; search = search q (n ∷ r) se gi vi sp un false to })) (search q (n ∷ r) se gi vi sp un false to) w
+          → StepSim q (stepOutcome (stateOf q (search q (n ∷ r) se gi vi sp un false ow))
+          (cond (e && s) (actOn (q .geometry) (suc (length r)) v (stateOf q (search q (n ∷ r) se gi vi sp un false ow)) w) (stepping NoRoom w)))
+          (cond e (accepted q (advance (shape q) v (search q (n ∷ r) se gi vi sp un false ow)))
+          (record { answer = stepped NoRoom; search = search q (n ∷ r) se gi vi sp un false ow })) (search q (n ∷ r) se gi vi sp un false ow) w
       go false s f g = unchanged refl refl refl refl
       go true false f g = absurd (g (f tt))
-      go true true f g = act-sim q low upp n r se gi vi sp un to w N (f tt) (H (f tt)) v
+      go true true f g = act-sim q low upp n r se gi vi sp un ow w N (f tt) (H (f tt)) v
 
   pub step-sim : (m : Search (shape q)) (w : Memory) (v : Verdict) → Numbers q m → (Room q (sizes w) → Held q m w)
       → StepSim q (stepOutcome (stateOf q m) (stepDef (q .geometry) (stateOf q m) w v)) (ruleWith q (enough (needed (stateOf q (start q))) (sizes w)) v m) m w
-  step-sim m w v N H = step-fields (m .stack) (m .settled) (m .given) (m .visits) (m .splits) (m .unspent) (m .stopped) (m .told) w v N H
+  step-sim m w v N H = step-fields (m .stack) (m .settled) (m .given) (m .visits) (m .splits) (m .unspent) (m .stopped) (m .own) w v N H

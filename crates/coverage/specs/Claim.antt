@@ -9,9 +9,10 @@ use lib.ListN.{length, take}
 use lib.Ieee.{Float}
 use Rattle.lists.specs.Members.{Any, All, Pairwise}
 use Rattle.lists.specs.Parts.{block}
+use Rattle.verdicts.specs.declared.Test.{Test}
 use Rattle.verdicts.specs.declared.Verdict.the-variants.{Settled}
 use Rattle.floats.specs.Sizes.{Within}
-use Rattle.machine.specs.Machine.{Node, Settling, Search, InNode, ended}
+use Rattle.machine.specs.Machine.{Node, settledBy, Settling, Search, InNode, ended}
 use Rattle.machine.specs.Merge.{merged}
 use Rattle.machine.specs.Covered.{SetApart, Covered, Off}
 use Rattle.regions.specs.declared.Region.{Region}
@@ -31,7 +32,7 @@ use Rattle.terms.specs.Terms.{seamOf1, seamOf2}
 use Rattle.machine.specs.Marks.{Marked}
 use Rattle.stretches.specs.Stretches.{nearAt}
 use Rattle.coverage.specs.Calls.{Answer, stepped, judged, reported, Ran}
-use Rattle.opening.specs.Asked.{Asked, shape, pieces1, pieces2, In1, In2, stateOf, tally, rawList, netOf1, netOf2, rangesOf, depthOf}
+use Rattle.opening.specs.Asked.{Asked, shape, pieces1, pieces2, In1, In2, stateOf, resultOf, rawList, netOf1, netOf2, rangesOf, depthOf}
 
 -- ---- what admission and an unrefused opening give
 -- ends of pieces are finite and at most 2 ^ bound in size; nets have the line's width
@@ -77,7 +78,7 @@ pub record GoodReport (q : Asked) (m : Search (shape q)) (w : Word) (c : Counts)
   pub number : k ≡ length out
   -- the search has ended, and the counts are its
   pub finished : T (ended (shape q) m)
-  pub tallied : c ≡ tally q m
+  pub tallied : c ≡ resultOf q m
   -- the regions are its raw list merged, and the word is its: complete if the list is empty, budget if a node is left, else unseparated
   pub listed : out ≡ merged merging (rawList q m)
   pub named : w ≡ wordFor (length (m .given)) (length (m .stack))
@@ -86,6 +87,8 @@ pub record GoodReport (q : Asked) (m : Search (shape q)) (w : Word) (c : Counts)
   pub disjoint : Pairwise (Off merging) out
   -- equal marks exactly where a chain of neighbours joins two regions, each the lowest list index of its group
   pub marked : Marked k (nearAt (seamOf1 (q .terms)) (seamOf2 (q .terms)) out) (take k (o .marks))
+  -- "The three sum to settled"
+  pub tags : c .settled ≡ c .boxes + c .planes + c .lines
   pub exact : (w ≡ Complete) ↔ ((c .given ≡ 0) × (c .left ≡ 0))
 
 abbrev pub GoodReported : (q : Asked) → Search (shape q) → Reported → Output → Type 0
@@ -103,15 +106,17 @@ pub record After (q : Asked) (m : Search (shape q)) (r : Ran) : Type 0 where
   -- each pair of stations lies in a piece pair set apart by its boxes, a settled node, a region given up or a waiting node
   pub covered : (s t : Float) → In1 q s → In2 q t → Covered (shape q) (pieces1 q) (pieces2 q) m s t
   -- pairs + splits = settled + given up + waiting; at most pairs + 64 nodes wait
-  pub balance : r .state .pairs + r .state .splits ≡ r .state .settled + r .state .given + r .state .waiting
-  pub atMost : r .state .waiting ≤ r .state .pairs + 64
+  pub balance : r .state .tally .pairs + r .state .tally .splits ≡ r .state .tally .settled + r .state .tally .given + r .state .tally .waiting
+  pub atMost : r .state .tally .waiting ≤ r .state .tally .pairs + 64
+  -- the nodes settled by box, plane and line sum to settled
+  pub tags : r .state .tally .settled ≡ r .state .tally .boxes + r .state .tally .planes + r .state .tally .lines
   -- each split spends one of S × P, and nothing else does; each visit splits, settles or gives up a node, but the one that ends the search at no allowance
-  pub allowance : r .state .splits + r .state .unspent ≡ allowanceOf (r .state)
-  pub visited : r .state .visits ≡ r .state .splits + r .state .settled + r .state .given + cond (r .state .stopped) 1 0
+  pub allowance : r .state .tally .splits + r .state .tally .unspent ≡ allowanceOf (r .state .tally)
+  pub visited : r .state .tally .visits ≡ r .state .tally .splits + r .state .tally .settled + r .state .tally .given + cond (r .state .tally .stopped) 1 0
   -- the state's counts are the search's, the memory holds its nodes, the raw slice its given-up regions
   pub state : r .state ≡ stateOf q m
   pub nodes : AllStored q (r .memory) (m .stack)
   pub givenUp : take (length (m .given) * 10) (r .memory .raw) ≡ flats (map (regionOf (q .geometry) (q .gap)) (m .given))
   pub reports : All (GoodAnswer q m) (r .answers)
-  -- a node settled on the search's own verdict has nets that pass the clearing tests: its pieces' nets, halved as its splits went
-  pub cleared : All (λ (e : Settling (shape q)). T (e .own) → q .geometry .clearing (q .gap) (netOf1 q (e .node)) (netOf2 q (e .node)) ≡ Settled) (m .settled)
+  -- a node settled on the search's own verdict has nets that pass the clearing tests, by the test that the own verdict named: its pieces' nets, halved as its splits went
+  pub cleared : All (λ (e : Settling (shape q)). (t : Test) → e .own ≡ settledBy t → q .geometry .clearing (q .gap) (netOf1 q (e .node)) (netOf2 q (e .node)) ≡ Settled t) (m .settled)

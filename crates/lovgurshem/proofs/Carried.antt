@@ -39,7 +39,7 @@ abbrev Fixed : Type 0
 Fixed = ℕ × ℕ × ℕ × ℕ × Float × Terms
 
 abbrev fixed : State → Fixed
-fixed x = (x .pairs, x .quota, x .width1, x .width2, x .gap, x .terms)
+fixed x = (x .tally .pairs, x .tally .quota, x .width1, x .width2, x .gap, x .terms)
 
 abbrev fixedIn : Stepped → Fixed → Fixed
 fixedIn (Next x) g = fixed x
@@ -55,16 +55,16 @@ module _ (G : Geometry) where
 
     act-fixed : (n : ℕ) (v : Verdict) → fixedIn (actOn G n v x u .answer) (fixed x) ≡ fixed x
     act-fixed zero v = refl
-    act-fixed (suc k) Settled = refl
-    act-fixed (suc k) Split = divide-fixed (leb limit (depthAt (u .depths) k)) (x .unspent) k (depthAt (u .depths) k) (part1 x u k) (part2 x u k)
+    act-fixed (suc k) (Settled by) = refl
+    act-fixed (suc k) Split = divide-fixed (leb limit (depthAt (u .depths) k)) (x .tally .unspent) k (depthAt (u .depths) k) (part1 x u k) (part2 x u k)
     act-fixed (suc k) Unseparated = refl
 
     step-fixed : (v : Verdict) → fixedIn (stepDef G x u v .answer) (fixed x) ≡ fixed x
-    step-fixed v = go (over x) (enough (needed x) (sizes u) && isSearch x u)
+    step-fixed v = go (over (x .tally)) (enough (needed x) (sizes u) && isSearch x u)
       where
-        go : (a b : Bool) → fixedIn (cond {A = Stepping} a (stepping Ended u) (cond b (actOn G (x .waiting) v x u) (stepping NoRoom u)) .answer) (fixed x) ≡ fixed x
+        go : (a b : Bool) → fixedIn (cond {A = Stepping} a (stepping Ended u) (cond b (actOn G (x .tally .waiting) v x u) (stepping NoRoom u)) .answer) (fixed x) ≡ fixed x
         go true b = refl
-        go false true = act-fixed (x .waiting) v
+        go false true = act-fixed (x .tally .waiting) v
         go false false = refl
 
     carried-fixed : (a : Own) → fixedIn (carriedOut G x u a .answer) (fixed x) ≡ fixed x
@@ -80,7 +80,7 @@ module _ (G : Geometry) where
 
   run-fixed : (n : ℕ) (x : State) (u : Memory) → fixedIn (runFor G n x u .answer) (fixed x) ≡ fixed x
   run-fixed zero x u = refl
-  run-fixed (suc n) x u = go (over x) (run-fixed n)
+  run-fixed (suc n) x u = go (over (x .tally)) (run-fixed n)
     where
       go : (b : Bool) → ((y : State) (m : Memory) → fixedIn (runFor G n y m .answer) (fixed y) ≡ fixed y)
           → fixedIn (cond {A = Stepping} b (stepping (Next x) u) (turned (runFor G n) x (ownStepDef G x u)) .answer) (fixed x) ≡ fixed x
@@ -148,4 +148,4 @@ step-carried n ws u y t e =
 pub run-carried : RunCarried
 unfolding callRun
 run-carried ws u y t e =
-    rw t (next-read ws (runDef geometry (stateOf ws) u .answer) y t (run-fixed geometry (2 * stateOf ws .unspent + stateOf ws .waiting + 1) (stateOf ws) u) e)
+    rw t (next-read ws (runDef geometry (stateOf ws) u .answer) y t (run-fixed geometry (2 * stateOf ws .tally .unspent + stateOf ws .tally .waiting + 1) (stateOf ws) u) e)

@@ -5,6 +5,8 @@ use mathlib.Core.Bool.{Bool, true, false, _||_, cond}
 use Prim.Native.Nat.{ℕ, zero, suc, _+_}
 use lib.Dec.{leb}
 use lib.ListN.{length}
+use Rattle.verdicts.specs.declared.Test.{Test}
+use Rattle.verdicts.specs.declared.Test.the-variants.{Box, Plane, Line}
 use Rattle.verdicts.specs.declared.Verdict.{Verdict}
 use Rattle.verdicts.specs.declared.Verdict.the-variants.{Settled, Split, Unseparated}
 
@@ -31,10 +33,16 @@ pub record Node (S : Shape) : Type 0 where
   pub a : Spot S
   pub b : Spot S
 
--- a settled node, and whether the search's own verdict on it had been asked and was Settled
+-- what is remembered of the search's own verdict since the last step that was not refused: that it was not asked, or not Settled; or that it was Settled by this test
+pub data OwnVerdict : Type 0 where
+  notSettled : OwnVerdict
+  settledBy : Test → OwnVerdict
+
+-- a settled node, the tag that the step gave it, and what the search's own verdict on it had been
 pub record Settling (S : Shape) : Type 0 where
   pub node : Node S
-  pub own : Bool
+  pub tag : Test
+  pub own : OwnVerdict
 
 -- `stack` has the top node first; `settled` the last first; `given` the first first.
 pub record Search (S : Shape) : Type 0 where
@@ -45,8 +53,20 @@ pub record Search (S : Shape) : Type 0 where
   pub splits : ℕ
   pub unspent : ℕ
   pub stopped : Bool
-  -- the own verdict has been asked since the last step that was not refused, and was Settled
-  pub told : Bool
+  -- the own verdict since the last step that was not refused
+  pub own : OwnVerdict
+
+-- 1 where two tags are the same, else 0
+abbrev pub isTag : Test → Test → ℕ
+isTag Box Box = 1
+isTag Box Plane = 0
+isTag Box Line = 0
+isTag Plane Box = 0
+isTag Plane Plane = 1
+isTag Plane Line = 0
+isTag Line Box = 0
+isTag Line Plane = 0
+isTag Line Line = 1
 
 module _ (S : Shape) where
   abbrev pub half : Bool → S .Part → S .Part
@@ -80,7 +100,7 @@ module _ (S : Shape) where
   pushed (p ∷ ps) qs = row p qs ++ pushed ps qs
 
   abbrev pub fresh : List (S .Part) → List (S .Part) → ℕ → Search S
-  fresh ps qs allowance = record { stack = reverse (pushed ps qs); settled = []; given = []; visits = 0; splits = 0; unspent = allowance; stopped = false; told = false }
+  fresh ps qs allowance = record { stack = reverse (pushed ps qs); settled = []; given = []; visits = 0; splits = 0; unspent = allowance; stopped = false; own = notSettled }
 
   -- ---- a step
   abbrev pub deeper : Bool → Spot S → Spot S
@@ -111,7 +131,7 @@ module _ (S : Shape) where
         splits = m .splits;
         unspent = m .unspent;
         stopped = m .stopped;
-        told = false;
+        own = notSettled;
       }
 
   -- the search ends, with these nodes left
@@ -125,7 +145,7 @@ module _ (S : Shape) where
         splits = m .splits;
         unspent = zero;
         stopped = true;
-        told = false;
+        own = notSettled;
       }
 
   -- a split: at the depth limit, at no allowance, and otherwise
@@ -141,24 +161,24 @@ module _ (S : Shape) where
         splits = suc (m .splits);
         unspent = u;
         stopped = m .stopped;
-        told = false;
+        own = notSettled;
       }
 
   -- what a verdict for the top node does; nothing where no node waits
   abbrev pub onTop : Verdict → List (Node S) → Search S → Search S
-  onTop Settled [] m = m
+  onTop (Settled tag) [] m = m
   onTop Split [] m = m
   onTop Unseparated [] m = m
-  onTop Settled (n ∷ r) m =
+  onTop (Settled tag) (n ∷ r) m =
       record {
         stack = r;
-        settled = record { node = n; own = m .told } ∷ m .settled;
+        settled = record { node = n; tag = tag; own = m .own } ∷ m .settled;
         given = m .given;
         visits = suc (m .visits);
         splits = m .splits;
         unspent = m .unspent;
         stopped = m .stopped;
-        told = false;
+        own = notSettled;
       }
   onTop Split (n ∷ r) m = divide (leb limit (depth n)) (m .unspent) n r m
   onTop Unseparated (n ∷ r) m = giveUp n r m
@@ -167,13 +187,13 @@ module _ (S : Shape) where
   advance v m = onTop v (m .stack) m
 
   -- the own verdict was asked and answered
-  abbrev pub isSettle : Verdict → Bool
-  isSettle Settled = true
-  isSettle Split = false
-  isSettle Unseparated = false
+  abbrev pub rememberedAs : Verdict → OwnVerdict
+  rememberedAs (Settled tag) = settledBy tag
+  rememberedAs Split = notSettled
+  rememberedAs Unseparated = notSettled
 
-  abbrev pub hear : Verdict → Search S → Search S
-  hear v m =
+  abbrev pub remember : Verdict → Search S → Search S
+  remember v m =
       record {
         stack = m .stack;
         settled = m .settled;
@@ -182,5 +202,10 @@ module _ (S : Shape) where
         splits = m .splits;
         unspent = m .unspent;
         stopped = m .stopped;
-        told = isSettle v;
+        own = rememberedAs v;
       }
+
+  -- ---- how many of the settled nodes have a tag
+  abbrev pub tagged : Test → List (Settling S) → ℕ
+  tagged t [] = 0
+  tagged t (e ∷ l) = isTag t (e .tag) + tagged t l

@@ -11,7 +11,12 @@ use lib.Ieee.{Float, nan}
 use Rattle.lists.specs.Parts.{block, patch}
 use Rattle.lists.proofs.Parts.{block-get, patch-twice, two-stores}
 use Rattle.floats.specs.Floats.{middle}
+use Rattle.verdicts.specs.declared.Test.{Test}
+use Rattle.verdicts.specs.declared.Test.the-variants.{Box, Plane, Line}
+use Rattle.machine.specs.Machine.{isTag}
 use Rattle.regions.specs.declared.Region.{Region}
+use Rattle.states.specs.declared.Tally.{Tally}
+use Rattle.nodes.specs.Moves.{settledTally}
 use Rattle.nodes.specs.Geometry.{Corners, regionWith}
 use Rattle.nodes.specs.Writes.{rangesHalved, rangesAfter, depthsAfter}
 
@@ -93,3 +98,50 @@ pub ranges-first : (l l1 l2 : List Float) (k : ℕ) (mid : Float) → (k + 2) * 
 ranges-first l l1 l2 k mid h m e f =
     ranges-are false l l1 l2 (mid ∷ getD l (k * 4 + 1) nan ∷ getD l (k * 4 + 2) nan ∷ getD l (k * 4 + 3) nan ∷ [])
     (getD l (k * 4) nan ∷ mid ∷ getD l (k * 4 + 2) nan ∷ getD l (k * 4 + 3) nan ∷ []) k h refl refl e f (halved-first l k mid m)
+
+-- ---- the numbers after a node is settled, the tags' counts being these
+abbrev settledWith : ℕ → Tally → ℕ → ℕ → ℕ → Tally
+settledWith k t b p l = record {
+  pairs = t .pairs;
+  quota = t .quota;
+  waiting = k;
+  visits = t .visits + 1;
+  splits = t .splits;
+  unspent = t .unspent;
+  settled = t .settled + 1;
+  boxes = b;
+  planes = p;
+  lines = l;
+  given = t .given;
+  stopped = t .stopped;
+}
+
+module _ (k : ℕ) (t : Tally) (by : Test) where
+  counted : (b p l : ℕ) → b ≡ isTag Box by + t .boxes → p ≡ isTag Plane by + t .planes → l ≡ isTag Line by + t .lines
+      → settledWith k t b p l ≡ settledTally by k t
+  counted b p l eb ep el =
+      let v = add-one (t .visits) in
+      let s = add-one (t .settled) in
+      λ i. record {
+        pairs = t .pairs;
+        quota = t .quota;
+        waiting = k;
+        visits = v i;
+        splits = t .splits;
+        unspent = t .unspent;
+        settled = s i;
+        boxes = eb i;
+        planes = ep i;
+        lines = el i;
+        given = t .given;
+        stopped = t .stopped;
+      }
+
+  pub by-box : by ≡ Box → settledWith k t (t .boxes + 1) (t .planes) (t .lines) ≡ settledTally by k t
+  by-box e = counted _ _ _ (rw e (omega arith)) (rw e (omega arith)) (rw e (omega arith))
+
+  pub by-plane : by ≡ Plane → settledWith k t (t .boxes) (t .planes + 1) (t .lines) ≡ settledTally by k t
+  by-plane e = counted _ _ _ (rw e (omega arith)) (rw e (omega arith)) (rw e (omega arith))
+
+  pub by-line : by ≡ Line → settledWith k t (t .boxes) (t .planes) (t .lines + 1) ≡ settledTally by k t
+  by-line e = counted _ _ _ (rw e (omega arith)) (rw e (omega arith)) (rw e (omega arith))

@@ -40,13 +40,14 @@ pub record Above (x : State) (k : ℕ) (s : Sizes) : Type 0 where
 
 -- what an accepted step may take as given: node k, at the depth d, is the top of those waiting, its slots and a place for its region are there, and no count runs over
 pub record Room (x : State) (k d : ℕ) (s : Sizes) : Type 0 where
-  pub top : x .waiting ≡ suc k
+  pub top : x .tally .waiting ≡ suc k
   pub nets1 : (k + 1) * (4 * x .width1) ≤ s .nets1
   pub nets2 : (k + 1) * (4 * x .width2) ≤ s .nets2
   pub ranges : (k + 1) * 4 ≤ s .ranges
   pub depths : k + 1 ≤ s .depths
-  pub raw : (x .given + 1) * 10 ≤ s .raw
-  pub closed : x .settled + x .given + x .waiting < 4294967296
-  pub spent : x .splits + x .unspent < 4294967296
-  pub steps : x .visits < 18446744073709551615
+  pub raw : (x .tally .given + 1) * 10 ≤ s .raw
+  pub closed : x .tally .settled + x .tally .given + x .tally .waiting < 4294967296
+  pub tags : x .tally .settled ≡ x .tally .boxes + x .tally .planes + x .tally .lines
+  pub spent : x .tally .splits + x .tally .unspent < 4294967296
+  pub steps : x .tally .visits < 18446744073709551615
   pub above : d < 64 → Above x k s

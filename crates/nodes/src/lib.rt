@@ -8,78 +8,103 @@ ghost use Rattle.boxes.specs.Boxes.{secondHalved};
 ghost use Rattle.regions.specs.Regions.{flat};
 ghost use Rattle.nodes.specs.Geometry.{regionWith};
 ghost use Rattle.nodes.specs.Nets.{bothBoxes};
-ghost use Rattle.nodes.specs.Moves.{settledState, givenState, stoppedState, halvedState, movedState, MayMove};
+ghost use Rattle.nodes.specs.Moves.{settledTally, givenTally, stoppedTally, halvedTally, movedTally, movedState, MayMove};
 ghost use Rattle.nodes.specs.Writes.{slotsAfter, rangesAfter, depthsAfter, Above};
 use boxes::Aabb;
 use regions::Region;
 use states::State;
+use states::Tally;
+use verdicts::Test;
 
 // What a step does with the node on top.
 pub enum Move {
-    Settled,
+    Settled(Test),
     GivenUp,
     // no allowance is left: it stays, and the search ends
     Kept,
     Halved,
 }
 
-// ---- what a step does to the state
+// ---- what a step does to the numbers
 
-fn settled(st: State, k: u32) -> State
-    requires { ⌜ (st .settled < 4294967295) × (st .visits < 18446744073709551615) ⌝ }
-    ensures { λ r. ⌜ r ≡ settledState k st ⌝ }
+fn settled(t: Tally, k: u32, by: Test) -> Tally
+    requires { ⌜ MayMove (Move.Settled by) t k ⌝ }
+    ensures { λ r. ⌜ r ≡ settledTally by k t ⌝ }
 {
-    let mut next = st;
+    let mut next = t;
     next.waiting = k;
-    next.visits = st.visits + 1;
-    next.settled = st.settled + 1;
+    next.visits = t.visits + 1;
+    next.settled = t.settled + 1;
+    match by {
+        Test::Box => {
+            next.boxes = t.boxes + 1;
+            next
+        }
+        Test::Plane => {
+            next.planes = t.planes + 1;
+            next
+        }
+        Test::Line => {
+            next.lines = t.lines + 1;
+            next
+        }
+    }
+}
+
+fn given_up(t: Tally, k: u32) -> Tally
+    requires { ⌜ MayMove Move.GivenUp t k ⌝ }
+    ensures { λ r. ⌜ r ≡ givenTally k t ⌝ }
+{
+    let mut next = t;
+    next.waiting = k;
+    next.visits = t.visits + 1;
+    next.given = t.given + 1;
     next
 }
 
-fn given_up(st: State, k: u32) -> State
-    requires { ⌜ (st .given < 4294967295) × (st .visits < 18446744073709551615) ⌝ }
-    ensures { λ r. ⌜ r ≡ givenState k st ⌝ }
+fn stopped(t: Tally) -> Tally
+    requires { ⌜ (t .unspent ≡ 0) × (t .visits < 18446744073709551615) ⌝ }
+    ensures { λ r. ⌜ r ≡ stoppedTally t ⌝ }
 {
-    let mut next = st;
-    next.waiting = k;
-    next.visits = st.visits + 1;
-    next.given = st.given + 1;
-    next
-}
-
-fn stopped(st: State) -> State
-    requires { ⌜ (st .unspent ≡ 0) × (st .visits < 18446744073709551615) ⌝ }
-    ensures { λ r. ⌜ r ≡ stoppedState st ⌝ }
-{
-    let mut next = st;
-    next.visits = st.visits + 1;
+    let mut next = t;
+    next.visits = t.visits + 1;
     next.stopped = true;
     next
 }
 
-fn halved(st: State, k: u32) -> State
-    requires { ⌜ (1 ≤ st .unspent) × (st .splits < 4294967295) × (st .visits < 18446744073709551615) × (k < 65600) ⌝ }
-    ensures { λ r. ⌜ r ≡ halvedState k (st .unspent - 1) st ⌝ }
+fn halved(t: Tally, k: u32) -> Tally
+    requires { ⌜ MayMove Move.Halved t k ⌝ }
+    ensures { λ r. ⌜ r ≡ halvedTally k (t .unspent - 1) t ⌝ }
 {
-    let mut next = st;
+    let mut next = t;
     next.waiting = k + 2;
-    next.visits = st.visits + 1;
-    next.splits = st.splits + 1;
-    next.unspent = st.unspent - 1;
+    next.visits = t.visits + 1;
+    next.splits = t.splits + 1;
+    next.unspent = t.unspent - 1;
     next
 }
 
-// The state after this was done with node k, the top.
-pub fn moved(st: State, k: u32, m: Move) -> State
-    requires { ⌜ MayMove m st k ⌝ }
-    ensures { λ r. ⌜ r ≡ movedState m k st ⌝ }
+// The numbers after this was done with node k, the top.
+fn moved_tally(t: Tally, k: u32, m: Move) -> Tally
+    requires { ⌜ MayMove m t k ⌝ }
+    ensures { λ r. ⌜ r ≡ movedTally m k t ⌝ }
 {
     match m {
-        Move::Settled => settled(st, k),
-        Move::GivenUp => given_up(st, k),
-        Move::Kept => stopped(st),
-        Move::Halved => halved(st, k),
+        Move::Settled(by) => settled(t, k, by),
+        Move::GivenUp => given_up(t, k),
+        Move::Kept => stopped(t),
+        Move::Halved => halved(t, k),
     }
+}
+
+// The state after it.
+pub fn moved(st: State, k: u32, m: Move) -> State
+    requires { ⌜ MayMove m (st .tally) k ⌝ }
+    ensures { λ r. ⌜ r ≡ movedState m k st ⌝ }
+{
+    let mut next = st;
+    next.tally = moved_tally(st.tally, k, m);
+    next
 }
 
 // ---- what it does to the memory
@@ -148,10 +173,14 @@ fn deepen(depths: &mut [u8], k: usize, depth: u8)
 
 // Node k is given up: its region goes to the raw list.
 pub fn give_up(st: State, k: u32, a: Aabb, b: Aabb, ranges: &[f64], raw: &mut [f64])
-    requires { ⌜ ((k + 1) * 4 ≤ length (now ranges)) × ((st .given + 1) * 10 ≤ length (now raw)) ⌝ }
-    ensures { λ r. ⌜ now (raw .exit) ≡ patch (now (raw .entry)) (st .given * 10) (flat (regionWith (bothBoxes a b) (block 4 k (now (ranges .entry))))) ⌝ }
+    requires { ⌜ ((k + 1) * 4 ≤ length (now ranges)) × ((st .tally .given + 1) * 10 ≤ length (now raw)) ⌝ }
+    ensures { λ r. ⌜ now (raw .exit) ≡ patch (now (raw .entry)) (st .tally .given * 10) (flat (regionWith (bothBoxes a b) (block 4 k (now (ranges .entry))))) ⌝ }
 {
-    regions::store(raw, st.given as usize, region_of(a, b, ranges, k as usize));
+    regions::store(
+        raw,
+        st.tally.given as usize,
+        region_of(a, b, ranges, k as usize),
+    );
 }
 
 // Node k is halved along the line with the larger box, along the second where they are equal.

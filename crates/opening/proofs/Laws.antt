@@ -74,18 +74,23 @@ module _ (q : Question) (p1 p2 : List Float) (u : Memory) where
       let e = sym (pairs-are q p1 p2) in
       let w = e ∙ sym (length-reverse (pushedPairs (searchFor q))) in
       λ i. record {
-        pairs = e i;
-        quota = q .splits;
-        waiting = w i;
-        visits = 0;
-        splits = 0;
-        unspent = q .splits * e i;
-        settled = 0;
-        given = 0;
+        tally = record {
+          pairs = e i;
+          quota = q .splits;
+          waiting = w i;
+          visits = 0;
+          splits = 0;
+          unspent = q .splits * e i;
+          settled = 0;
+          boxes = 0;
+          planes = 0;
+          lines = 0;
+          given = 0;
+          stopped = false;
+        };
         width1 = q .line1 .degree + 1;
         width2 = q .line2 .degree + 1;
         gap = q .gap;
-        stopped = false;
         terms = termsOf q;
       }
 

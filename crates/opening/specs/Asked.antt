@@ -5,8 +5,10 @@ use Prim.Native.Nat.{ℕ, _+_, _*_}
 use lib.ListN.{length}
 use lib.Ieee.{Float}
 use Rattle.lists.specs.Parts.{patch, joined}
-use Rattle.machine.specs.Machine.{Shape, Node, Search, partOf, depth, pushed, fresh, ended}
+use Rattle.machine.specs.Machine.{Shape, Node, Search, partOf, depth, pushed, fresh, ended, tagged}
 use Rattle.regions.specs.declared.Region.{Region}
+use Rattle.verdicts.specs.declared.Test.the-variants.{Box, Plane, Line}
+use Rattle.states.specs.declared.Tally.{Tally}
 use Rattle.states.specs.declared.State.{State}
 use Rattle.states.specs.declared.Counts.{Counts}
 use Rattle.terms.specs.declared.Terms.{Terms}
@@ -62,32 +64,38 @@ recordsFor q = pairsOf q + allowanceFor q
 abbrev pub start : (q : Asked) → Search (shape q)
 start q = fresh (shape q) (pieces1 q) (pieces2 q) (allowanceFor q)
 
--- ---- the numbers of a search, as a state and as counts
+-- ---- the numbers of a search, as a tally, as a state and as counts
+abbrev pub tallyOf : (q : Asked) → Search (shape q) → Tally
+tallyOf q m =
+    record {
+      pairs = pairsOf q;
+      quota = q .quota;
+      waiting = length (m .stack);
+      visits = m .visits;
+      splits = m .splits;
+      unspent = m .unspent;
+      settled = length (m .settled);
+      boxes = tagged (shape q) Box (m .settled);
+      planes = tagged (shape q) Plane (m .settled);
+      lines = tagged (shape q) Line (m .settled);
+      given = length (m .given);
+      stopped = m .stopped;
+    }
+
 abbrev pub stateOf : (q : Asked) → Search (shape q) → State
-stateOf q m = record {
-  pairs = pairsOf q;
-  quota = q .quota;
-  waiting = length (m .stack);
-  visits = m .visits;
-  splits = m .splits;
-  unspent = m .unspent;
-  settled = length (m .settled);
-  given = length (m .given);
-  width1 = q .width1;
-  width2 = q .width2;
-  gap = q .gap;
-  stopped = m .stopped;
-  terms = q .terms;
-}
+stateOf q m = record { tally = tallyOf q m; width1 = q .width1; width2 = q .width2; gap = q .gap; terms = q .terms }
 
 -- left: the nodes waiting at the end
-abbrev pub tally : (q : Asked) → Search (shape q) → Counts
-tally q m =
+abbrev pub resultOf : (q : Asked) → Search (shape q) → Counts
+resultOf q m =
     record {
       pairs = pairsOf q;
       visits = m .visits;
       splits = m .splits;
       settled = length (m .settled);
+      boxes = tagged (shape q) Box (m .settled);
+      planes = tagged (shape q) Plane (m .settled);
+      lines = tagged (shape q) Line (m .settled);
       given = length (m .given);
       left = cond (ended (shape q) m) (length (m .stack)) 0;
       unspent = m .unspent;

@@ -15,7 +15,7 @@ use Rattle.texts.proofs.Laws.{decimal-fits, float-length}
 use Rattle.regions.specs.declared.Word.{Word}
 use Rattle.regions.specs.declared.Word.the-variants.{Complete, Budget, Unseparated}
 use Rattle.states.specs.declared.Counts.{Counts}
-use Rattle.printing.specs.Printed.{countsLength, regionLength, pairsName, visitsName, splitsName, settledName, givenName, leftName, regionsName, refusedText, space, newline, wordText, counted, stepsText, nodesText, countLine, refusalLine, floatTexts, regionLine, regionLines, regionText}
+use Rattle.printing.specs.Printed.{countsLength, regionLength, pairsName, visitsName, splitsName, settledName, boxName, planeName, lineName, givenName, leftName, regionsName, refusedText, space, newline, wordText, counted, stepsText, settledText, listedText, countLine, refusalLine, floatTexts, regionLine, regionLines, regionText}
 
 -- the same text, said otherwise
 pub moved : (l : List ℕ) (at : ℕ) {xs ys : List ℕ} {l' : List ℕ} {r : ℕ} → xs ≡ ys → Wrote l at xs l' r → Wrote l at ys l' r
@@ -69,25 +69,32 @@ steps-are out at c h a b d = (
   omega (arith, a .1, b .1, d .1),
 )
 
-pub nodes-are : (out : List ℕ) (at : ℕ) (c : Counts) {o1 o2 o3 : List ℕ} {r1 r2 r3 : ℕ} → at + 82 ≤ length out
-    → Counted out at settledName (c .settled) o1 r1 → Counted o1 r1 givenName (c .given) o2 r2 → Counted o2 r2 leftName (c .left) o3 r3
-    → Wrote out at (nodesText c) o3 r3 × (r3 ≤ at + 82)
-unfolding nodesText
-nodes-are out at c h a b d = (
-  three out at (counted settledName (c .settled)) (counted givenName (c .given)) (counted leftName (c .left)) (a .0) (b .0) (d .0)
-      (omega (arith, a .1, b .1, d .1)),
-  omega (arith, a .1, b .1, d .1),
-)
+pub settled-are : (out : List ℕ) (at : ℕ) (c : Counts) {o1 o2 o3 o4 : List ℕ} {r1 r2 r3 r4 : ℕ} → at + 107 ≤ length out
+    → Counted out at settledName (c .settled) o1 r1 → Counted o1 r1 boxName (c .boxes) o2 r2 → Counted o2 r2 planeName (c .planes) o3 r3
+    → Counted o3 r3 lineName (c .lines) o4 r4 → Wrote out at (settledText c) o4 r4 × (r4 ≤ at + 107)
+unfolding settledText
+settled-are out at c h (a, a') (b, b') (d, d') (e, e') =
+    let settled = counted settledName (c .settled) in
+    let boxes = counted boxName (c .boxes) in
+    let planes = counted planeName (c .planes) in
+    (joined out at (settled ++ boxes ++ planes) (counted lineName (c .lines)) (three out at settled boxes planes a b d (omega arith)) e (omega arith), omega arith)
 
-pub counts-are : (out : List ℕ) (w : Word) (c : Counts) (n : ℕ) {o1 o2 o3 o4 o5 : List ℕ} {r1 r2 r3 r4 r5 : ℕ} → countsLength ≤ length out
-    → Wrote out 0 (wordText w) o1 r1 × (r1 ≤ 11) → Wrote o1 r1 (stepsText c) o2 r2 × (r2 ≤ r1 + 83) → Wrote o2 r2 (nodesText c) o3 r3 × (r3 ≤ r2 + 82)
-    → Counted o3 r3 regionsName n o4 r4 → Wrote o4 r4 newline o5 r5
-    → Wrote out 0 (countLine w c n) o5 r5 × (r5 ≤ countsLength)
+pub listed-are : (out : List ℕ) (at : ℕ) (c : Counts) {o1 o2 : List ℕ} {r1 r2 : ℕ} → at + 53 ≤ length out
+    → Counted out at givenName (c .given) o1 r1 → Counted o1 r1 leftName (c .left) o2 r2 → Wrote out at (listedText c) o2 r2 × (r2 ≤ at + 53)
+unfolding listedText
+listed-are out at c h (a, a') (b, b') = (joined out at (counted givenName (c .given)) (counted leftName (c .left)) a b (omega arith), omega arith)
+
+pub counts-are : (out : List ℕ) (w : Word) (c : Counts) (n : ℕ) {o1 o2 o3 o4 o5 o6 : List ℕ} {r1 r2 r3 r4 r5 r6 : ℕ} → countsLength ≤ length out
+    → Wrote out 0 (wordText w) o1 r1 × (r1 ≤ 11) → Wrote o1 r1 (stepsText c) o2 r2 × (r2 ≤ r1 + 83) → Wrote o2 r2 (settledText c) o3 r3 × (r3 ≤ r2 + 107)
+    → Wrote o3 r3 (listedText c) o4 r4 × (r4 ≤ r3 + 53) → Counted o4 r4 regionsName n o5 r5 → Wrote o5 r5 newline o6 r6
+    → Wrote out 0 (countLine w c n) o6 r6 × (r6 ≤ countsLength)
 unfolding countLine
-counts-are out w c n h (a, a') (b, b') (d, d') (e, e') f =
-    let k = f .0 in (
-      three out 0 (wordText w ++ stepsText c ++ nodesText c) (counted regionsName n) newline
-          (three out 0 (wordText w) (stepsText c) (nodesText c) a b d (omega arith)) e f (omega arith),
+counts-are out w c n h (a, a') (b, b') (d, d') (e, e') (f, f') g =
+    let k = g .0 in
+    let nodes = wordText w ++ stepsText c ++ settledText c in (
+      joined out 0 (nodes ++ listedText c ++ counted regionsName n) newline
+          (three out 0 nodes (listedText c) (counted regionsName n) (three out 0 (wordText w) (stepsText c) (settledText c) a b d (omega arith)) e f (omega arith))
+          g (omega arith),
       omega arith,
     )
 

@@ -39,6 +39,18 @@ splitsName = 32 ∷ 115 ∷ 112 ∷ 108 ∷ 105 ∷ 116 ∷ 115 ∷ 61 ∷ []
 abbrev pub settledName : List ℕ
 settledName = 32 ∷ 115 ∷ 101 ∷ 116 ∷ 116 ∷ 108 ∷ 101 ∷ 100 ∷ 61 ∷ []
 
+-- " box="
+abbrev pub boxName : List ℕ
+boxName = 32 ∷ 98 ∷ 111 ∷ 120 ∷ 61 ∷ []
+
+-- " plane="
+abbrev pub planeName : List ℕ
+planeName = 32 ∷ 112 ∷ 108 ∷ 97 ∷ 110 ∷ 101 ∷ 61 ∷ []
+
+-- " line="
+abbrev pub lineName : List ℕ
+lineName = 32 ∷ 108 ∷ 105 ∷ 110 ∷ 101 ∷ 61 ∷ []
+
 -- " given="
 abbrev pub givenName : List ℕ
 givenName = 32 ∷ 103 ∷ 105 ∷ 118 ∷ 101 ∷ 110 ∷ 61 ∷ []
@@ -68,7 +80,7 @@ newline = 10 ∷ []
 
 -- ---- how long a line can be, twenty digits for each number
 abbrev pub countsLength : ℕ
-countsLength = 206
+countsLength = 284
 
 abbrev pub regionLength : ℕ
 regionLength = 198
@@ -88,16 +100,21 @@ wordText Complete = completeText
 wordText Budget = budgetText
 wordText Unseparated = unseparatedText
 
--- "pairs=1 visits=1 splits=0" (`put_steps`), and "settled=0 given=1 left=0" (`put_nodes`)
+-- "pairs=1 visits=1 splits=0" (`put_steps`)
 unfoldable pub stepsText : Counts → List ℕ
 stepsText c = counted pairsName (c .pairs) ++ counted visitsName (c .visits) ++ counted splitsName (c .splits)
 
-unfoldable pub nodesText : Counts → List ℕ
-nodesText c = counted settledName (c .settled) ++ counted givenName (c .given) ++ counted leftName (c .left)
+-- "settled=0", and "The three sum to settled and are printed as box=, plane= and line= after it" (`put_settled`)
+unfoldable pub settledText : Counts → List ℕ
+settledText c = counted settledName (c .settled) ++ counted boxName (c .boxes) ++ counted planeName (c .planes) ++ counted lineName (c .lines)
+
+-- "given=1 left=0" (`put_listed`)
+unfoldable pub listedText : Counts → List ℕ
+listedText c = counted givenName (c .given) ++ counted leftName (c .left)
 
 -- the line of counts, n the number of regions (`put_counts`)
 unfoldable pub countLine : Word → Counts → ℕ → List ℕ
-countLine w c n = wordText w ++ stepsText c ++ nodesText c ++ counted regionsName n ++ newline
+countLine w c n = wordText w ++ stepsText c ++ settledText c ++ listedText c ++ counted regionsName n ++ newline
 
 -- floats one after the other, a space before each (`put_floats`)
 unfoldable pub floatTexts : List Float → List ℕ

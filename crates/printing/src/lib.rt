@@ -3,7 +3,7 @@ ghost use mathlib.Core.Path.{_≡_};
 ghost use Prim.Native.Nat.{_+_, _*_, _≤_};
 ghost use lib.ListN.{length};
 ghost use Rattle.texts.specs.Texts.{Wrote};
-ghost use Rattle.printing.specs.Printed.{countsLength, regionLength, refusalLength, counted, wordText, stepsText, nodesText, countLine, floatTexts, regionLine, regionLines, refusalLine};
+ghost use Rattle.printing.specs.Printed.{countsLength, regionLength, refusalLength, counted, wordText, stepsText, settledText, listedText, countLine, floatTexts, regionLine, regionLines, refusalLine};
 use regions::Word;
 use states::Counts;
 
@@ -40,14 +40,25 @@ fn put_steps(out: &mut [u8], at: usize, c: Counts) -> usize
     put_count(out, visits, b" splits=", c.splits as u64)
 }
 
-// Nodes settled, given up and left.
-fn put_nodes(out: &mut [u8], at: usize, c: Counts) -> usize
-    requires { ⌜ at + 82 ≤ length (now out) ⌝ }
-    ensures { λ r. ⌜ Wrote (now (out .entry)) at (nodesText c) (now (out .exit)) r ⌝ }
-    ensures { λ r. ⌜ r ≤ at + 82 ⌝ }
+// Nodes settled, and by which test.
+fn put_settled(out: &mut [u8], at: usize, c: Counts) -> usize
+    requires { ⌜ at + 107 ≤ length (now out) ⌝ }
+    ensures { λ r. ⌜ Wrote (now (out .entry)) at (settledText c) (now (out .exit)) r ⌝ }
+    ensures { λ r. ⌜ r ≤ at + 107 ⌝ }
 {
     let settled = put_count(out, at, b" settled=", c.settled as u64);
-    let given = put_count(out, settled, b" given=", c.given as u64);
+    let boxes = put_count(out, settled, b" box=", c.boxes as u64);
+    let planes = put_count(out, boxes, b" plane=", c.planes as u64);
+    put_count(out, planes, b" line=", c.lines as u64)
+}
+
+// Nodes given up and left.
+fn put_listed(out: &mut [u8], at: usize, c: Counts) -> usize
+    requires { ⌜ at + 53 ≤ length (now out) ⌝ }
+    ensures { λ r. ⌜ Wrote (now (out .entry)) at (listedText c) (now (out .exit)) r ⌝ }
+    ensures { λ r. ⌜ r ≤ at + 53 ⌝ }
+{
+    let given = put_count(out, at, b" given=", c.given as u64);
     put_count(out, given, b" left=", c.left as u64)
 }
 
@@ -59,8 +70,9 @@ pub fn put_counts(out: &mut [u8], w: Word, c: Counts, regions: usize) -> usize
 {
     let word = put_word(out, w);
     let steps = put_steps(out, word, c);
-    let nodes = put_nodes(out, steps, c);
-    let all = put_count(out, nodes, b" regions=", regions as u64);
+    let settled = put_settled(out, steps, c);
+    let listed = put_listed(out, settled, c);
+    let all = put_count(out, listed, b" regions=", regions as u64);
     texts::put_bytes(out, all, b"\n")
 }
 

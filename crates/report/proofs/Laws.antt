@@ -75,33 +75,34 @@ few-waiting P (suc n) d e =
 
 -- n floats for the regions and k marks
 pub record RoomLeft (x : State) (s : Sizes) (n k : ℕ) : Type 0 where
-  pub nets1 : x .waiting * (4 * x .width1) ≤ s .nets1
-  pub nets2 : x .waiting * (4 * x .width2) ≤ s .nets2
-  pub ranges : x .waiting * 4 ≤ s .ranges
-  pub raw : (x .given + x .waiting) * 10 ≤ s .raw
-  pub slice : (x .given + x .waiting) * 10 ≤ n
-  pub marks : x .given + x .waiting ≤ k
-  pub few : x .pairs ≤ 65535 → x .quota ≤ 65535 → x .given + x .waiting ≤ 4294967295
+  pub nets1 : x .tally .waiting * (4 * x .width1) ≤ s .nets1
+  pub nets2 : x .tally .waiting * (4 * x .width2) ≤ s .nets2
+  pub ranges : x .tally .waiting * 4 ≤ s .ranges
+  pub raw : (x .tally .given + x .tally .waiting) * 10 ≤ s .raw
+  pub slice : (x .tally .given + x .tally .waiting) * 10 ≤ n
+  pub marks : x .tally .given + x .tally .waiting ≤ k
+  pub few : x .tally .pairs ≤ 65535 → x .tally .quota ≤ 65535 → x .tally .given + x .tally .waiting ≤ 4294967295
 
-pub room-left : (x : State) (d : ℕ) (s : Sizes) (n k : ℕ) → enough (needed x) s ≡ true → leb (recordsOf x * 10) n && leb (recordsOf x) k ≡ true
-    → searchWith x d ≡ true → RoomLeft x s n k
+pub room-left : (x : State) (d : ℕ) (s : Sizes) (n k : ℕ) → enough (needed x) s ≡ true → leb (recordsOf (x .tally) * 10) n && leb (recordsOf (x .tally)) k ≡ true
+    → searchWith (x .tally) d ≡ true → RoomLeft x s n k
 room-left x d s n k e l f =
-    let b1 = topFits (x .pairs) (x .waiting) d in
-    let b2 = eqb (x .pairs + x .splits) (x .settled + x .given + x .waiting) in
-    let b3 = eqb (x .splits + x .unspent) (allowanceOf x) in
-    let b4 = leb (x .visits) (x .splits + x .settled + x .given + 1) in
-    let f2 = and-second b1 (b2 && (b3 && b4)) f in
-    let w = few-waiting (x .pairs) (x .waiting) d (and-first b1 (b2 && (b3 && b4)) f) in
-    let bal = eqb-true (x .pairs + x .splits) (x .settled + x .given + x .waiting) (and-first b2 (b3 && b4) f2) in
-    let all = eqb-true (x .splits + x .unspent) (allowanceOf x) (and-first b3 b4 (and-second b2 (b3 && b4) f2)) in
+    let b1 = topFits (x .tally .pairs) (x .tally .waiting) d in
+    let b2 = eqb (x .tally .pairs + x .tally .splits) (x .tally .settled + x .tally .given + x .tally .waiting) in
+    let b3 = eqb (x .tally .splits + x .tally .unspent) (allowanceOf (x .tally)) in
+    let b4 = eqb (x .tally .settled) (x .tally .boxes + x .tally .planes + x .tally .lines) in
+    let b5 = leb (x .tally .visits) (x .tally .splits + x .tally .settled + x .tally .given + 1) in
+    let f2 = and-second b1 (b2 && (b3 && (b4 && b5))) f in
+    let w = few-waiting (x .tally .pairs) (x .tally .waiting) d (and-first b1 (b2 && (b3 && (b4 && b5))) f) in
+    let bal = eqb-true (x .tally .pairs + x .tally .splits) (x .tally .settled + x .tally .given + x .tally .waiting) (and-first b2 (b3 && (b4 && b5)) f2) in
+    let all = eqb-true (x .tally .splits + x .tally .unspent) (allowanceOf (x .tally)) (and-first b3 (b4 && b5) (and-second b2 (b3 && (b4 && b5)) f2)) in
     let R = room-all x s e in
-    let floats = leb-true (recordsOf x * 10) n (and-first (leb (recordsOf x * 10) n) (leb (recordsOf x) k) l) in
-    let marks = leb-true (recordsOf x) k (and-second (leb (recordsOf x * 10) n) (leb (recordsOf x) k) l) in
-    let g : x .given + x .waiting ≤ recordsOf x = omega arith in
+    let floats = leb-true (recordsOf (x .tally) * 10) n (and-first (leb (recordsOf (x .tally) * 10) n) (leb (recordsOf (x .tally)) k) l) in
+    let marks = leb-true (recordsOf (x .tally)) k (and-second (leb (recordsOf (x .tally) * 10) n) (leb (recordsOf (x .tally)) k) l) in
+    let g : x .tally .given + x .tally .waiting ≤ recordsOf (x .tally) = omega arith in
     record {
-      nets1 = slots-fit (x .pairs) (x .waiting) (4 * x .width1) (s .nets1) w (R .nets1);
-      nets2 = slots-fit (x .pairs) (x .waiting) (4 * x .width2) (s .nets2) w (R .nets2);
-      ranges = slots-fit (x .pairs) (x .waiting) 4 (s .ranges) w (R .ranges);
+      nets1 = slots-fit (x .tally .pairs) (x .tally .waiting) (4 * x .width1) (s .nets1) w (R .nets1);
+      nets2 = slots-fit (x .tally .pairs) (x .tally .waiting) (4 * x .width2) (s .nets2) w (R .nets2);
+      ranges = slots-fit (x .tally .pairs) (x .tally .waiting) 4 (s .ranges) w (R .ranges);
       raw = le-trans (mul-le-mul-right 10 g) (R .raw);
       slice = le-trans (mul-le-mul-right 10 g) floats;
       marks = le-trans g marks;
@@ -109,39 +110,39 @@ room-left x d s n k e l f =
     }
 
 -- there are no more merged regions than raw ones, so each has room for its mark
-pub few-marks : (x : State) {s : Sizes} {n k : ℕ} (m : ℕ) (l : List Float) → x .pairs ≤ 65535 → x .quota ≤ 65535 → RoomLeft x s n k
-    → m ≡ length (merged merging (regionsIn (x .given + x .waiting) l)) → (m ≤ 4294967295) × (m * 10 ≤ n) × (m ≤ k)
+pub few-marks : (x : State) {s : Sizes} {n k : ℕ} (m : ℕ) (l : List Float) → x .tally .pairs ≤ 65535 → x .tally .quota ≤ 65535 → RoomLeft x s n k
+    → m ≡ length (merged merging (regionsIn (x .tally .given + x .tally .waiting) l)) → (m ≤ 4294967295) × (m * 10 ≤ n) × (m ≤ k)
 few-marks x m l p q r e =
-    let a = merged-length merging (regionsIn (x .given + x .waiting) l) in
-    let b = regions-length (x .given + x .waiting) l in
-    let g : m ≤ x .given + x .waiting = omega (arith, a, b, e) in
+    let a = merged-length merging (regionsIn (x .tally .given + x .tally .waiting) l) in
+    let b = regions-length (x .tally .given + x .tally .waiting) l in
+    let g : m ≤ x .tally .given + x .tally .waiting = omega (arith, a, b, e) in
     (le-trans g (r .few p q), le-trans (mul-le-mul-right 10 g) (r .slice), le-trans g (r .marks))
 
 -- ---- a report: one test a return
 module _ (G : Geometry) (x : State) (u : Memory) (o : Output) where
-  pub report-running : over x ≡ false → reporting Running u o ≡ reportDef G x u o
+  pub report-running : over (x .tally) ≡ false → reporting Running u o ≡ reportDef G x u o
   report-running e = rw e refl
 
-  pub report-short : over x ≡ true → enough (needed x) (sizes u) ≡ false → reporting NoRoom u o ≡ reportDef G x u o
+  pub report-short : over (x .tally) ≡ true → enough (needed x) (sizes u) ≡ false → reporting NoRoom u o ≡ reportDef G x u o
   report-short e f = rw (e, f) refl
 
-  pub report-cramped : over x ≡ true → enough (needed x) (sizes u) ≡ true → outRoom (recordsOf x) o ≡ false → reporting NoRoom u o ≡ reportDef G x u o
+  pub report-cramped : over (x .tally) ≡ true → enough (needed x) (sizes u) ≡ true → outRoom (recordsOf (x .tally)) o ≡ false → reporting NoRoom u o ≡ reportDef G x u o
   report-cramped e f l = rw (e, f, l) refl
 
-  pub report-forged : over x ≡ true → enough (needed x) (sizes u) ≡ true → outRoom (recordsOf x) o ≡ true → isSearch x u ≡ false
+  pub report-forged : over (x .tally) ≡ true → enough (needed x) (sizes u) ≡ true → outRoom (recordsOf (x .tally)) o ≡ true → isSearch x u ≡ false
       → reporting NoRoom u o ≡ reportDef G x u o
   report-forged e f l s = rw (e, f, l, s) refl
 
-  pub report-told : over x ≡ true → enough (needed x) (sizes u) ≡ true → outRoom (recordsOf x) o ≡ true → isSearch x u ≡ true
-      → (w : Word) (c : Counts) (n : ℕ) (raw out : List Float) (marks : List ℕ) (a b : Seam) → w ≡ wordFor (x .given) (x .waiting) → c ≡ countsOf x
-      → raw ≡ rawAfter G x u → n ≡ length (merged merging (regionsIn (x .given + x .waiting) raw))
-      → out ≡ reportSlice (x .given + x .waiting) (merged merging (regionsIn (x .given + x .waiting) raw)) (o .regions)
+  pub report-told : over (x .tally) ≡ true → enough (needed x) (sizes u) ≡ true → outRoom (recordsOf (x .tally)) o ≡ true → isSearch x u ≡ true
+      → (w : Word) (c : Counts) (n : ℕ) (raw out : List Float) (marks : List ℕ) (a b : Seam) → w ≡ wordFor (x .tally .given) (x .tally .waiting) → c ≡ countsOf (x .tally)
+      → raw ≡ rawAfter G x u → n ≡ length (merged merging (regionsIn (x .tally .given + x .tally .waiting) raw))
+      → out ≡ reportSlice (x .tally .given + x .tally .waiting) (merged merging (regionsIn (x .tally .given + x .tally .waiting) raw)) (o .regions)
       → a ≡ seamOf1 (x .terms) → b ≡ seamOf2 (x .terms) → marks ≡ patch (o .marks) 0 (marksOf n (nearIn a b out))
       → reporting (Told w c n) (memory (u .nets1) (u .nets2) (u .ranges) (u .depths) raw) (output out marks) ≡ reportDef G x u o
   report-told e f l s w c n raw out marks a b ew ec er en eo ea eb em =
-      let fn = en ∙ ap (λ (r : List Float). length (merged merging (regionsIn (x .given + x .waiting) r))) er in
-      let fo = eo ∙ ap (λ (r : List Float). reportSlice (x .given + x .waiting) (merged merging (regionsIn (x .given + x .waiting) r)) (o .regions)) er in
-      let fm = report-marks (seamOf1 (x .terms)) (seamOf2 (x .terms)) (x .given + x .waiting) n (merged merging (regionsIn (x .given + x .waiting) (rawAfter G x u)))
+      let fn = en ∙ ap (λ (r : List Float). length (merged merging (regionsIn (x .tally .given + x .tally .waiting) r))) er in
+      let fo = eo ∙ ap (λ (r : List Float). reportSlice (x .tally .given + x .tally .waiting) (merged merging (regionsIn (x .tally .given + x .tally .waiting) r)) (o .regions)) er in
+      let fm = report-marks (seamOf1 (x .terms)) (seamOf2 (x .terms)) (x .tally .given + x .tally .waiting) n (merged merging (regionsIn (x .tally .given + x .tally .waiting) (rawAfter G x u)))
       (o .regions) out (o .marks) marks fn fo (em ∙ (λ i. patch (o .marks) 0 (marksOf n (nearIn (ea i) (eb i) out)))) in
       (λ i. reporting (Told (ew i) (ec i) (fn i)) (memory (u .nets1) (u .nets2) (u .ranges) (u .depths) (er i)) (output (fo i) (fm i)))
       ∙ accepted

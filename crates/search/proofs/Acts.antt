@@ -50,23 +50,23 @@ ranges-split false k l a b = refl
 
 module _ (x : State) (u : Memory) (k d : ℕ) (a b : Aabb) (ea : a ≡ boxOf (block (4 * x .width1) k (u .nets1))) (eb : b ≡ boxOf (block (4 * x .width2) k (u .nets2))) where
   -- ---- given up
-  give-is : (w : List Float) → w ≡ patch (u .raw) (x .given * 10) (flat (regionWith (bothBoxes a b) (block 4 k (u .ranges))))
+  give-is : (w : List Float) → w ≡ patch (u .raw) (x .tally .given * 10) (flat (regionWith (bothBoxes a b) (block 4 k (u .ranges))))
       → stepping (Next (givenState k x)) (memory (u .nets1) (u .nets2) (u .ranges) (u .depths) w) ≡ giveUpAt geometry k x u (part1 x u k) (part2 x u k)
   give-is w f =
-      let g = f ∙ (λ i. patch (u .raw) (x .given * 10) (flat (regionWith (bothBoxes (ea i) (eb i)) (block 4 k (u .ranges))))) in
+      let g = f ∙ (λ i. patch (u .raw) (x .tally .given * 10) (flat (regionWith (bothBoxes (ea i) (eb i)) (block 4 k (u .ranges))))) in
       λ i. stepping (Next (givenState k x)) (memory (u .nets1) (u .nets2) (u .ranges) (u .depths) (g i))
 
-  pub unseparated-is : (w : List Float) → w ≡ patch (u .raw) (x .given * 10) (flat (regionWith (bothBoxes a b) (block 4 k (u .ranges))))
+  pub unseparated-is : (w : List Float) → w ≡ patch (u .raw) (x .tally .given * 10) (flat (regionWith (bothBoxes a b) (block 4 k (u .ranges))))
       → stepping (Next (givenState k x)) (memory (u .nets1) (u .nets2) (u .ranges) (u .depths) w) ≡ actOn geometry (suc k) Unseparated x u
   unseparated-is w f = give-is w f
 
-  pub too-deep-is : (w : List Float) → d ≡ depthAt (u .depths) k → 64 ≤ d → w ≡ patch (u .raw) (x .given * 10) (flat (regionWith (bothBoxes a b) (block 4 k (u .ranges))))
+  pub too-deep-is : (w : List Float) → d ≡ depthAt (u .depths) k → 64 ≤ d → w ≡ patch (u .raw) (x .tally .given * 10) (flat (regionWith (bothBoxes a b) (block 4 k (u .ranges))))
       → stepping (Next (givenState k x)) (memory (u .nets1) (u .nets2) (u .ranges) (u .depths) w) ≡ actOn geometry (suc k) Split x u
   too-deep-is w ed h f =
       let t : leb 64 (depthAt (u .depths) k) ≡ true = le-leb 64 (depthAt (u .depths) k) (let z = ed in omega arith) in
       rw t (give-is w f)
 
-  pub stopped-is : d ≡ depthAt (u .depths) k → d < 64 → x .unspent ≡ 0 → stepping (Next (stoppedState x)) u ≡ actOn geometry (suc k) Split x u
+  pub stopped-is : d ≡ depthAt (u .depths) k → d < 64 → x .tally .unspent ≡ 0 → stepping (Next (stoppedState x)) u ≡ actOn geometry (suc k) Split x u
   stopped-is ed h z =
       let t : leb 64 (depthAt (u .depths) k) ≡ false = lt-leb 64 (depthAt (u .depths) k) (let y = ed in omega arith) in
       rw (t, z) refl
@@ -95,17 +95,17 @@ module _ (x : State) (u : Memory) (k d : ℕ) (a b : Aabb) (ea : a ≡ boxOf (bl
       let z : suc n - 1 ≡ n = omega arith in
       λ i. stepping (Next (halvedState k (z i) x)) (f i)
 
-  pub halved-is : (n1 n2 rg : List Float) (dp : List ℕ) → d ≡ depthAt (u .depths) k → d < 64 → 1 ≤ x .unspent
+  pub halved-is : (n1 n2 rg : List Float) (dp : List ℕ) → d ≡ depthAt (u .depths) k → d < 64 → 1 ≤ x .tally .unspent
       → (k + 1) * (4 * x .width1) ≤ length (u .nets1) → (k + 1) * (4 * x .width2) ≤ length (u .nets2)
       → n1 ≡ slotsAfter (not (secondHalved a b)) (x .width1) k (u .nets1) → n2 ≡ slotsAfter (secondHalved a b) (x .width2) k (u .nets2)
       → rg ≡ rangesAfter (secondHalved a b) k (u .ranges) → dp ≡ depthsAfter d k (u .depths)
-      → stepping (Next (halvedState k (x .unspent - 1) x)) (memory n1 n2 rg dp (u .raw)) ≡ actOn geometry (suc k) Split x u
+      → stepping (Next (halvedState k (x .tally .unspent - 1) x)) (memory n1 n2 rg dp (u .raw)) ≡ actOn geometry (suc k) Split x u
   halved-is n1 n2 rg dp ed h p h1 h2 e1 e2 e3 e4 =
       let t : leb 64 (depthAt (u .depths) k) ≡ false = lt-leb 64 (depthAt (u .depths) k) (let y = ed in omega arith) in
       let l1 = part-length (k * (4 * x .width1)) (4 * x .width1) (u .nets1) (room k (4 * x .width1) (length (u .nets1)) h1) in
       let l2 = part-length (k * (4 * x .width2)) (4 * x .width2) (u .nets2) (room k (4 * x .width2) (length (u .nets2)) h2) in
-      rw t (spend (x .unspent) (memory n1 n2 rg dp (u .raw)) p (memory-split n1 n2 rg dp l1 l2 e1 e2 e3 e4)
-      ∙ ap (λ (j : ℕ). divideAt geometry false (x .unspent) k x u (part1 x u k) (part2 x u k) j) ed)
+      rw t (spend (x .tally .unspent) (memory n1 n2 rg dp (u .raw)) p (memory-split n1 n2 rg dp l1 l2 e1 e2 e3 e4)
+      ∙ ap (λ (j : ℕ). divideAt geometry false (x .tally .unspent) k x u (part1 x u k) (part2 x u k) j) ed)
     where
       room : (k w n : ℕ) → (k + 1) * w ≤ n → k * w + w ≤ n
       room k w n h = omega arith

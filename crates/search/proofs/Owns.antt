@@ -17,23 +17,23 @@ use Rattle.states.proofs.Tests.{waits, enough-own, top-ended, top-refused}
 use Rattle.search.proofs.Tests.{Accepted, accepted-is, own-judged, step-refused}
 
 module _ (G : Geometry) (x : State) (u : Memory) where
-  pub own-step-ended : (b : Bool) → TopEnded ≡ topOf x b (u .depths) → stepping Ended u ≡ ownStepDef G x u
-  own-step-ended b e = rw (top-ended x b (u .depths) e) refl
+  pub own-step-ended : (b : Bool) → TopEnded ≡ topOf (x .tally) b (u .depths) → stepping Ended u ≡ ownStepDef G x u
+  own-step-ended b e = rw (top-ended (x .tally) b (u .depths) e) refl
 
   refused : (b : Bool) (n : ℕ) → 1 ≤ n → ((v : Verdict) → stepping NoRoom u ≡ stepDef G x u v) → stepping NoRoom u ≡ carriedOut G x u (cond b (judgeAt G n x u) OwnNoRoom)
   refused true zero h f = absurd (omega arith)
   refused true (suc n) h f = f _
   refused false n h f = refl
 
-  pub own-step-refused : (b : Bool) → b ≡ enough (needed x) (sizes u) → TopNoRoom ≡ topOf x b (u .depths) → stepping NoRoom u ≡ ownStepDef G x u
+  pub own-step-refused : (b : Bool) → b ≡ enough (needed x) (sizes u) → TopNoRoom ≡ topOf (x .tally) b (u .depths) → stepping NoRoom u ≡ ownStepDef G x u
   own-step-refused b h e =
-      let o = top-refused x b (u .depths) e .0 in
-      rw o (refused (enoughOwn (needed x) (sizes u) && isSearch x u) (x .waiting) (waits x o) (λ v. step-refused G x u v b h e))
+      let o = top-refused (x .tally) b (u .depths) e .0 in
+      rw o (refused (enoughOwn (needed x) (sizes u) && isSearch x u) (x .tally .waiting) (waits (x .tally) o) (λ v. step-refused G x u v b h e))
 
   pub own-step-accepted : (r : Stepping) (v : Verdict) (k d : ℕ) → Accepted x u k d
       → v ≡ G .clearing (x .gap) (block (4 * x .width1) k (u .nets1)) (block (4 * x .width2) k (u .nets2)) → r ≡ stepDef G x u v → r ≡ ownStepDef G x u
   own-step-accepted r v k d A h f =
-      let at : k ≡ x .waiting - 1 = (let t = A .top in omega arith) in
+      let at : k ≡ x .tally .waiting - 1 = (let t = A .top in omega arith) in
       f
       ∙ ap (carriedOut G x u) (own-judged G x u v (A .runs) (enough-own (needed x) (sizes u) (A .lent)) (accepted-is x u k d A)
       (h ∙ ap (λ (j : ℕ). G .clearing (x .gap) (block (4 * x .width1) j (u .nets1)) (block (4 * x .width2) j (u .nets2))) at))

@@ -49,7 +49,7 @@ part2 x u k = record { lo = getD (block 4 k (u .ranges)) 2 nan; hi = getD (block
 -- ---- the memory after it
 -- the region goes to 10 × the given count before it
 abbrev pub givenMemory : Geometry → State → Memory → Piece → Piece → Memory
-givenMemory G x u p q = record { nets1 = u .nets1; nets2 = u .nets2; ranges = u .ranges; depths = u .depths; raw = patch (u .raw) (x .given * 10) (flat (regionFor G p q)) }
+givenMemory G x u p q = record { nets1 = u .nets1; nets2 = u .nets2; ranges = u .ranges; depths = u .depths; raw = patch (u .raw) (x .tally .given * 10) (flat (regionFor G p q)) }
 
 -- a part of the line that is halved, or of the other
 abbrev pub halves : Geometry → Bool → Bool → Piece → Piece
@@ -87,15 +87,15 @@ divideAt G false (suc s) k x u p q d = stepping (Next (halvedState k s x)) (spli
 -- what a verdict for the top node, node k, does
 abbrev pub actOn : Geometry → ℕ → Verdict → State → Memory → Stepping
 actOn G zero v x u = stepping Ended u
-actOn G (suc k) Settled x u = stepping (Next (settledState k x)) u
-actOn G (suc k) Split x u = divideAt G (leb limit (depthAt (u .depths) k)) (x .unspent) k x u (part1 x u k) (part2 x u k) (depthAt (u .depths) k)
+actOn G (suc k) (Settled by) x u = stepping (Next (settledState by k x)) u
+actOn G (suc k) Split x u = divideAt G (leb limit (depthAt (u .depths) k)) (x .tally .unspent) k x u (part1 x u k) (part2 x u k) (depthAt (u .depths) k)
 actOn G (suc k) Unseparated x u = giveUpAt G k x u (part1 x u k) (part2 x u k)
 
 -- 20, then 19
 abbrev pub stepDef : Geometry → State → Memory → Verdict → Stepping
 stepDef G x u v =
-    cond (over x) (stepping Ended u)
-    (cond (enough (needed x) (sizes u) && isSearch x u) (actOn G (x .waiting) v x u) (stepping NoRoom u))
+    cond (over (x .tally)) (stepping Ended u)
+    (cond (enough (needed x) (sizes u) && isSearch x u) (actOn G (x .tally .waiting) v x u) (stepping NoRoom u))
 
 -- ---- the search's own verdict: it writes nothing
 abbrev pub judgeAt : Geometry → ℕ → State → Memory → Own
@@ -104,4 +104,4 @@ judgeAt G (suc k) x u = Is (G .clearing (x .gap) (part1 x u k .net) (part2 x u k
 
 -- 20 and 19 as for a step
 abbrev pub ownDef : Geometry → State → Memory → Own
-ownDef G x u = cond (over x) OwnEnded (cond (enoughOwn (needed x) (sizes u) && isSearch x u) (judgeAt G (x .waiting) x u) OwnNoRoom)
+ownDef G x u = cond (over (x .tally)) OwnEnded (cond (enoughOwn (needed x) (sizes u) && isSearch x u) (judgeAt G (x .tally .waiting) x u) OwnNoRoom)

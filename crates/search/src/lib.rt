@@ -40,7 +40,7 @@ pub fn own_verdict<'a>(st: State, nets1: &'a [f64], nets2: &'a [f64], depths: &[
     ensures { λ r. ⌜ r ≡ ownDef geometry st (memory (now (nets1 .entry)) (now (nets2 .entry)) [] (now (depths .entry)) []) ⌝ }
 {
     let room = states::has_room_to_judge(st, nets1.len(), nets2.len(), depths.len());
-    match states::top_node(st, room, depths) {
+    match states::top_node(st.tally, room, depths) {
         Top::Ended => Own::Ended,
         Top::NoRoom => Own::NoRoom,
         Top::Node(top, _) => {
@@ -89,7 +89,7 @@ fn find_top(
     raw: &[f64],
 ) -> Top
     ensures { λ r. ⌜ (let u = memory (now (nets1 .entry)) (now (nets2 .entry)) (now (ranges .entry)) (now (depths .entry)) (now (raw .entry)) in
-        r ≡ topOf st (enough (needed st) (sizes u)) (now (depths .entry))) ⌝ }
+        r ≡ topOf (st .tally) (enough (needed st) (sizes u)) (now (depths .entry))) ⌝ }
 {
     let room = states::has_room(
         st,
@@ -99,7 +99,7 @@ fn find_top(
         depths.len(),
         raw.len(),
     );
-    states::top_node(st, room, depths)
+    states::top_node(st.tally, room, depths)
 }
 
 // What a step that isn't refused does to the memory, and with node k, the top, which has this depth and these boxes.
@@ -123,10 +123,10 @@ fn advance(
         (memory (now (nets1 .exit)) (now (nets2 .exit)) (now (ranges .exit)) (now (depths .exit)) (now (raw .exit))))
         (actOn geometry (suc k) v st
         (memory (now (nets1 .entry)) (now (nets2 .entry)) (now (ranges .entry)) (now (depths .entry)) (now (raw .entry)))) ⌝ }
-    ensures { λ r. ⌜ MayMove r st k ⌝ }
+    ensures { λ r. ⌜ MayMove r (st .tally) k ⌝ }
 {
     match v {
-        Verdict::Settled => Move::Settled,
+        Verdict::Settled(t) => Move::Settled(t),
         Verdict::Unseparated => {
             nodes::give_up(st, k, a, b, ranges, raw);
             Move::GivenUp
@@ -136,7 +136,7 @@ fn advance(
                 nodes::give_up(st, k, a, b, ranges, raw);
                 return Move::GivenUp;
             }
-            if st.unspent == 0 {
+            if st.tally.unspent == 0 {
                 return Move::Kept;
             }
             nodes::halve(st, k, depth, a, b, nets1, nets2, ranges, depths);
@@ -252,7 +252,7 @@ pub fn run(
     let mut p = boxes::scratch();
     let mut q = boxes::scratch();
     let mut s = st;
-    while !states::ended(s) {
+    while !states::ended(s.tally) {
         let out = own_step(s, nets1, nets2, ranges, depths, raw, &mut p, &mut q);
         match out {
             Stepped::Next(next) => {

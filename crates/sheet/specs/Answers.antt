@@ -90,7 +90,7 @@ unfoldable pub answerOf : List ℕ → List ℕ
 answerOf s = walkedText (walkOf s)
 
 -- ---- into a lent buffer
--- the longest answer: the line of counts, and one for each region that there is room for; 162,368 bytes
+-- the longest answer: the line of counts, and one for each region that there is room for; 162,446 bytes
 abbrev pub longest : ℕ
 longest = countsLength + lentRegions * regionLength
 

@@ -310,7 +310,7 @@ fn answer_sheet(s: &[u8], out: &mut [u8]) -> usize
 pub fn answer(s: &[u8], out: &mut [u8]) -> usize
     ensures { λ r. ⌜ (r ≡ answerLength (now (s .entry)) (now (out .entry))) × (now (out .exit) ≡ answerIn (now (s .entry)) (now (out .entry))) ⌝ }
 {
-    if out.len() < 162368 {
+    if out.len() < 162446 {
         return 0;
     }
     answer_sheet(s, out)

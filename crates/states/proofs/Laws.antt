@@ -1,6 +1,6 @@
 -- Products that fit, and the tests of a state over numbers. Assumes nothing.
 use mathlib.Core.Path.{_≡_, refl}
-use mathlib.Core.Bool.{true, false}
+use mathlib.Core.Bool.{Bool, true, false, _&&_}
 use mathlib.Core.List.{List}
 use Prim.Native.Nat.{ℕ, zero, suc, _+_, _-_, _*_, _^_, _≤_, _<_}
 use native.Mathlib.Nat.{mul-le-mul, mul-one}
@@ -10,6 +10,7 @@ use lib.Seq.{drop-cons}
 use lib.Dec.{eqb}
 use borrow.Author.Tests.{le-leb, lt-leb, ne-eqb}
 use Rattle.lists.proofs.Loops.{nothing-left}
+use Rattle.states.specs.declared.Tally.{Tally}
 use Rattle.states.specs.declared.State.{State}
 use Rattle.states.specs.States.{recordsOf, topDepth, topFits, isZero, over}
 
@@ -18,8 +19,16 @@ pub product-fits : (a b : ℕ) → a ≤ 65600 → b ≤ 65600 → (a * b < 2 ^ 
 product-fits a b h k = let w = mul-le-mul h k in (omega arith, omega arith)
 
 -- ten for each record
-pub ten-fits : (x : State) {r : ℕ} → x .pairs ≤ 65535 → x .quota ≤ 65535 → r ≡ recordsOf x → r * 10 < 2 ^ 64
-ten-fits x h k e = let w = mul-le-mul k h in omega (arith, w, e)
+pub ten-fits : (t : Tally) {r : ℕ} → t .pairs ≤ 65535 → t .quota ≤ 65535 → r ≡ recordsOf t → r * 10 < 2 ^ 64
+ten-fits t h k e = let w = mul-le-mul k h in omega (arith, w, e)
+
+-- three tests are met, and the fourth isn't
+pub fourth-fails : (a b c d r : Bool) → a ≡ true → b ≡ true → c ≡ true → d ≡ false → false ≡ (a && (b && (c && (d && r))))
+fourth-fails a b c d r e f g h = rw (e, f, g, h) refl
+
+-- four tests are met, and the fifth decides
+pub fifth-decides : (a b c d : Bool) {r : Bool} → a ≡ true → b ≡ true → c ≡ true → d ≡ true → r ≡ (a && (b && (c && (d && r))))
+fifth-decides a b c d e f g h = rw (e, f, g, h) refl
 
 pub no-depth : (n : ℕ) (l : List ℕ) → n ≡ 0 → 0 ≡ topDepth n l
 no-depth zero l e = refl
@@ -47,8 +56,8 @@ pub fits-depth : (P n d : ℕ) → (n ≡ 0 → ⊥) → n ≤ P + d → lib.Dec
 fits-depth P zero d h k = absurd (h refl)
 fits-depth P (suc n) d h k = rw (le-leb (suc n) (P + d) k) refl
 
-pub ended-is : (x : State) → x .stopped ≡ false → eqb (x .waiting) 0 ≡ over x
-ended-is x e = rw e (go (x .waiting))
+pub ended-is : (t : Tally) → t .stopped ≡ false → eqb (t .waiting) 0 ≡ over t
+ended-is t e = rw e (go (t .waiting))
   where
     go : (n : ℕ) → eqb n 0 ≡ isZero n
     go zero = refl

@@ -7,6 +7,7 @@ use native.Mathlib.Nat.{le-trans, mul-le-mul-right}
 use native.Mathlib.Omega.{arith}
 use lib.Dec.{leb, eqb}
 use borrow.Author.Tests.{leb-true, eqb-true}
+use Rattle.states.specs.declared.Tally.{Tally}
 use Rattle.states.specs.declared.State.{State}
 use Rattle.states.specs.declared.Top.{Top}
 use Rattle.states.specs.declared.Top.the-variants.{Node, Ended, NoRoom}
@@ -34,36 +35,40 @@ zero-no : (n : ℕ) → isZero n ≡ false → 1 ≤ n
 zero-no zero e = absurd (true≢false e)
 zero-no (suc n) e = omega arith
 
-pub waits : (x : State) → over x ≡ false → 1 ≤ x .waiting
-waits x e = zero-no (x .waiting) (or-second (x .stopped) (isZero (x .waiting)) e)
+pub waits : (t : Tally) → over t ≡ false → 1 ≤ t .waiting
+waits t e = zero-no (t .waiting) (or-second (t .stopped) (isZero (t .waiting)) e)
 
--- ---- what the five tests say
-pub record Sound (x : State) (d : ℕ) : Type 0 where
-  pub top : x .waiting ≤ x .pairs + d
+-- ---- what the six tests say
+pub record Sound (t : Tally) (d : ℕ) : Type 0 where
+  pub top : t .waiting ≤ t .pairs + d
   pub deep : d ≤ 64
-  pub balance : x .pairs + x .splits ≡ x .settled + x .given + x .waiting
-  pub allowance : x .splits + x .unspent ≡ allowanceOf x
-  pub seen : x .visits ≤ x .splits + x .settled + x .given + 1
+  pub balance : t .pairs + t .splits ≡ t .settled + t .given + t .waiting
+  pub allowance : t .splits + t .unspent ≡ allowanceOf t
+  pub tags : t .settled ≡ t .boxes + t .planes + t .lines
+  pub seen : t .visits ≤ t .splits + t .settled + t .given + 1
 
 top-is : (P n d : ℕ) → 1 ≤ n → topFits P n d ≡ true → (n ≤ P + d) × (d ≤ 64)
 top-is P zero d h e = absurd (omega arith)
 top-is P (suc n) d h e = (leb-true (suc n) (P + d) (and-first (leb (suc n) (P + d)) (leb d 64) e), leb-true d 64 (and-second (leb (suc n) (P + d)) (leb d 64) e))
 
-pub sound : (x : State) (d : ℕ) → 1 ≤ x .waiting → searchWith x d ≡ true → Sound x d
-sound x d h e =
-    let b1 = topFits (x .pairs) (x .waiting) d in
-    let b2 = eqb (x .pairs + x .splits) (x .settled + x .given + x .waiting) in
-    let b3 = eqb (x .splits + x .unspent) (allowanceOf x) in
-    let b4 = leb (x .visits) (x .splits + x .settled + x .given + 1) in
-    let e2 = and-second b1 (b2 && (b3 && b4)) e in
-    let e3 = and-second b2 (b3 && b4) e2 in
-    let t = top-is (x .pairs) (x .waiting) d h (and-first b1 (b2 && (b3 && b4)) e) in
+pub sound : (t : Tally) (d : ℕ) → 1 ≤ t .waiting → searchWith t d ≡ true → Sound t d
+sound t d h e =
+    let b1 = topFits (t .pairs) (t .waiting) d in
+    let b2 = eqb (t .pairs + t .splits) (t .settled + t .given + t .waiting) in
+    let b3 = eqb (t .splits + t .unspent) (allowanceOf t) in
+    let b4 = eqb (t .settled) (t .boxes + t .planes + t .lines) in
+    let b5 = leb (t .visits) (t .splits + t .settled + t .given + 1) in
+    let e2 = and-second b1 (b2 && (b3 && (b4 && b5))) e in
+    let e3 = and-second b2 (b3 && (b4 && b5)) e2 in
+    let e4 = and-second b3 (b4 && b5) e3 in
+    let top = top-is (t .pairs) (t .waiting) d h (and-first b1 (b2 && (b3 && (b4 && b5))) e) in
     record {
-      top = t .0;
-      deep = t .1;
-      balance = eqb-true _ _ (and-first b2 (b3 && b4) e2);
-      allowance = eqb-true _ _ (and-first b3 b4 e3);
-      seen = leb-true _ _ (and-second b3 b4 e3);
+      top = top .0;
+      deep = top .1;
+      balance = eqb-true _ _ (and-first b2 (b3 && (b4 && b5)) e2);
+      allowance = eqb-true _ _ (and-first b3 (b4 && b5) e3);
+      tags = eqb-true _ _ (and-first b4 b5 e4);
+      seen = leb-true _ _ (and-second b4 b5 e4);
     }
 
 -- slots of n numbers: so many fit as nodes wait, of a list with room for P + 64
@@ -72,42 +77,42 @@ slots-fit P k n len h r = le-trans (mul-le-mul-right n h) r
 
 -- ---- the room of an own verdict, and of a step
 pub record RoomOwn (x : State) (s : Sizes) : Type 0 where
-  pub nets1 : (x .pairs + 64) * (4 * x .width1) ≤ s .nets1
-  pub nets2 : (x .pairs + 64) * (4 * x .width2) ≤ s .nets2
-  pub depths : (x .pairs + 64) * 1 ≤ s .depths
+  pub nets1 : (x .tally .pairs + 64) * (4 * x .width1) ≤ s .nets1
+  pub nets2 : (x .tally .pairs + 64) * (4 * x .width2) ≤ s .nets2
+  pub depths : (x .tally .pairs + 64) * 1 ≤ s .depths
 
 pub room-own : (x : State) (s : Sizes) → enoughOwn (needed x) s ≡ true → RoomOwn x s
 room-own x s e =
-    let b1 = leb ((x .pairs + 64) * (4 * x .width1)) (s .nets1) in
-    let b2 = leb ((x .pairs + 64) * (4 * x .width2)) (s .nets2) in
-    let b3 = leb ((x .pairs + 64) * 1) (s .depths) in
+    let b1 = leb ((x .tally .pairs + 64) * (4 * x .width1)) (s .nets1) in
+    let b2 = leb ((x .tally .pairs + 64) * (4 * x .width2)) (s .nets2) in
+    let b3 = leb ((x .tally .pairs + 64) * 1) (s .depths) in
     record {
       nets1 = leb-true _ _ (and-first b1 (b2 && b3) e);
       nets2 = leb-true _ _ (and-first b2 b3 (and-second b1 (b2 && b3) e));
       depths = leb-true _ _ (and-second b2 b3 (and-second b1 (b2 && b3) e));
     }
 
-pub top-slot : (x : State) (d n len : ℕ) → over x ≡ false → searchWith x d ≡ true → (x .pairs + 64) * n ≤ len → (x .waiting - 1 + 1) * n ≤ len
+pub top-slot : (x : State) (d n len : ℕ) → over (x .tally) ≡ false → searchWith (x .tally) d ≡ true → (x .tally .pairs + 64) * n ≤ len → (x .tally .waiting - 1 + 1) * n ≤ len
 top-slot x d n len o e r =
-    let w = waits x o in
-    let s = sound x d w e in
-    let k : x .waiting - 1 + 1 ≤ x .pairs + 64 = (let a = s .top in let b = s .deep in omega arith) in
-    slots-fit (x .pairs) (x .waiting - 1 + 1) n len k r
+    let w = waits (x .tally) o in
+    let s = sound (x .tally) d w e in
+    let k : x .tally .waiting - 1 + 1 ≤ x .tally .pairs + 64 = (let a = s .top in let b = s .deep in omega arith) in
+    slots-fit (x .tally .pairs) (x .tally .waiting - 1 + 1) n len k r
 
 pub record RoomAll (x : State) (s : Sizes) : Type 0 where
-  pub nets1 : (x .pairs + 64) * (4 * x .width1) ≤ s .nets1
-  pub nets2 : (x .pairs + 64) * (4 * x .width2) ≤ s .nets2
-  pub ranges : (x .pairs + 64) * 4 ≤ s .ranges
-  pub depths : (x .pairs + 64) * 1 ≤ s .depths
-  pub raw : recordsOf x * 10 ≤ s .raw
+  pub nets1 : (x .tally .pairs + 64) * (4 * x .width1) ≤ s .nets1
+  pub nets2 : (x .tally .pairs + 64) * (4 * x .width2) ≤ s .nets2
+  pub ranges : (x .tally .pairs + 64) * 4 ≤ s .ranges
+  pub depths : (x .tally .pairs + 64) * 1 ≤ s .depths
+  pub raw : recordsOf (x .tally) * 10 ≤ s .raw
 
 pub enough-own : (need have : Sizes) → enough need have ≡ true → enoughOwn need have ≡ true
 enough-own need have e = and-first (enoughOwn need have) _ e
 
 pub room-all : (x : State) (s : Sizes) → enough (needed x) s ≡ true → RoomAll x s
 room-all x s e =
-    let b4 = leb ((x .pairs + 64) * 4) (s .ranges) in
-    let b5 = leb (recordsOf x * 10) (s .raw) in
+    let b4 = leb ((x .tally .pairs + 64) * 4) (s .ranges) in
+    let b5 = leb (recordsOf (x .tally) * 10) (s .raw) in
     let own = room-own x s (enough-own (needed x) s e) in
     let e4 = and-second (enoughOwn (needed x) s) (b4 && b5) e in
     record {
@@ -126,47 +131,47 @@ pub one-more : (n : ℕ) → 1 ≤ n → n ≡ suc (n - 1)
 one-more n h = omega arith
 
 -- ---- what `top_node` answers, and what its answer says
-abbrev topWith : State → ℕ → Bool → Bool → Top
-topWith x d o s = cond o Ended (cond s (Node (x .waiting - 1) d) NoRoom)
+abbrev topWith : Tally → ℕ → Bool → Bool → Top
+topWith t d o s = cond o Ended (cond s (Node (t .waiting - 1) d) NoRoom)
 
-module _ (x : State) (room : Bool) (depths : List ℕ) where
+module _ (t : Tally) (room : Bool) (depths : List ℕ) where
   abbrev d : ℕ
-  d = topDepth (x .waiting) depths
+  d = topDepth (t .waiting) depths
 
-  pub ended-top : over x ≡ true → Ended ≡ topOf x room depths
+  pub ended-top : over t ≡ true → Ended ≡ topOf t room depths
   ended-top o = rw o refl
 
-  pub short-top : over x ≡ false → room ≡ false → NoRoom ≡ topOf x room depths
+  pub short-top : over t ≡ false → room ≡ false → NoRoom ≡ topOf t room depths
   short-top o r = rw (o, r) refl
 
-  pub forged-top : over x ≡ false → room ≡ true → searchWith x d ≡ false → NoRoom ≡ topOf x room depths
+  pub forged-top : over t ≡ false → room ≡ true → searchWith t d ≡ false → NoRoom ≡ topOf t room depths
   forged-top o r s = rw (o, r, s) refl
 
-  pub node-top : (e : ℕ) → over x ≡ false → room ≡ true → e ≡ d → searchWith x e ≡ true → Node (x .waiting - 1) e ≡ topOf x room depths
+  pub node-top : (e : ℕ) → over t ≡ false → room ≡ true → e ≡ d → searchWith t e ≡ true → Node (t .waiting - 1) e ≡ topOf t room depths
   node-top e o r h s = rw (o, r, ← h, s) refl
 
-  pub top-ended : Ended ≡ topOf x room depths → over x ≡ true
-  top-ended e = go (over x) (room && searchWith x d) e
+  pub top-ended : Ended ≡ topOf t room depths → over t ≡ true
+  top-ended e = go (over t) (room && searchWith t d) e
     where
-      go : (o s : Bool) → Ended ≡ topWith x d o s → o ≡ true
+      go : (o s : Bool) → Ended ≡ topWith t d o s → o ≡ true
       go true s e = refl
       go false true e = absurd (let z : _≡_ {A = ℕ} 0 1 = cc in omega arith)
       go false false e = absurd (let z : _≡_ {A = ℕ} 0 1 = cc in omega arith)
 
-  pub top-refused : NoRoom ≡ topOf x room depths → (over x ≡ false) × (room && searchWith x d ≡ false)
-  top-refused e = go (over x) (room && searchWith x d) e
+  pub top-refused : NoRoom ≡ topOf t room depths → (over t ≡ false) × (room && searchWith t d ≡ false)
+  top-refused e = go (over t) (room && searchWith t d) e
     where
-      go : (o s : Bool) → NoRoom ≡ topWith x d o s → (o ≡ false) × (s ≡ false)
+      go : (o s : Bool) → NoRoom ≡ topWith t d o s → (o ≡ false) × (s ≡ false)
       go true s e = absurd (let z : _≡_ {A = ℕ} 0 1 = cc in omega arith)
       go false true e = absurd (let z : _≡_ {A = ℕ} 0 1 = cc in omega arith)
       go false false e = (refl, refl)
 
-  pub top-node : (k e : ℕ) → Node k e ≡ topOf x room depths → (over x ≡ false) × (room ≡ true) × (searchWith x d ≡ true) × (k ≡ x .waiting - 1) × (e ≡ d)
+  pub top-node : (k e : ℕ) → Node k e ≡ topOf t room depths → (over t ≡ false) × (room ≡ true) × (searchWith t d ≡ true) × (k ≡ t .waiting - 1) × (e ≡ d)
   top-node k e h =
-      let g = go (over x) (room && searchWith x d) h in
-      (g .0, and-first room (searchWith x d) (g .1), and-second room (searchWith x d) (g .1), g .2, g .3)
+      let g = go (over t) (room && searchWith t d) h in
+      (g .0, and-first room (searchWith t d) (g .1), and-second room (searchWith t d) (g .1), g .2, g .3)
     where
-      go : (o s : Bool) → Node k e ≡ topWith x d o s → (o ≡ false) × (s ≡ true) × (k ≡ x .waiting - 1) × (e ≡ d)
+      go : (o s : Bool) → Node k e ≡ topWith t d o s → (o ≡ false) × (s ≡ true) × (k ≡ t .waiting - 1) × (e ≡ d)
       go true s e = absurd (let z : _≡_ {A = ℕ} 0 1 = cc in omega arith)
       go false true e = (refl, refl, cc, cc)
       go false false e = absurd (let z : _≡_ {A = ℕ} 0 1 = cc in omega arith)

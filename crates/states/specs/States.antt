@@ -8,6 +8,7 @@ use lib.Ieee.{Float}
 use Rattle.lists.specs.Parts.{block}
 use Rattle.machine.specs.Machine.{limit}
 use Rattle.terms.specs.declared.Terms.{Terms}
+use Rattle.states.specs.declared.Tally.{Tally}
 use Rattle.states.specs.declared.State.{State}
 use Rattle.states.specs.declared.Counts.{Counts}
 use Rattle.states.specs.declared.Top.{Top}
@@ -24,9 +25,9 @@ pub record Memory : Type 0 where
 abbrev pub memory : List Float → List Float → List Float → List ℕ → List Float → Memory
 memory a b r d w = record { nets1 = a; nets2 = b; ranges = r; depths = d; raw = w }
 
--- the state of a fresh search of P pairs: all wait, and S × P may be spent
-abbrev pub firstState : ℕ → ℕ → ℕ → ℕ → Float → Terms → State
-firstState P S w1 w2 gap terms =
+-- the numbers of a fresh search of P pairs: all wait, and S × P may be spent
+abbrev pub firstTally : ℕ → ℕ → Tally
+firstTally P S =
     record {
       pairs = P;
       quota = S;
@@ -35,13 +36,15 @@ firstState P S w1 w2 gap terms =
       splits = 0;
       unspent = S * P;
       settled = 0;
+      boxes = 0;
+      planes = 0;
+      lines = 0;
       given = 0;
-      width1 = w1;
-      width2 = w2;
-      gap = gap;
       stopped = false;
-      terms = terms;
     }
+
+abbrev pub firstState : ℕ → ℕ → ℕ → ℕ → Float → Terms → State
+firstState P S w1 w2 gap terms = record { tally = firstTally P S; width1 = w1; width2 = w2; gap = gap; terms = terms }
 
 -- five lengths: of a memory's slices, of what is lent of them, of what is needed
 pub record Sizes : Type 0 where
@@ -55,22 +58,22 @@ abbrev pub sizes : Memory → Sizes
 sizes u = record { nets1 = length (u .nets1); nets2 = length (u .nets2); ranges = length (u .ranges); depths = length (u .depths); raw = length (u .raw) }
 
 -- "one of S × P is spent": the allowance that a search starts with (`allowance`)
-abbrev pub allowanceOf : State → ℕ
-allowanceOf x = x .quota * x .pairs
+abbrev pub allowanceOf : Tally → ℕ
+allowanceOf t = t .quota * t .pairs
 
 -- how many regions there can be, P × (S + 1): one a starting pair, and one more a split (`records`)
-abbrev pub recordsOf : State → ℕ
-recordsOf x = x .pairs + allowanceOf x
+abbrev pub recordsOf : Tally → ℕ
+recordsOf t = t .pairs + allowanceOf t
 
 -- "nets (P + 64) × 4 × width for each line; node ranges 4 × (P + 64), and as many depths as nodes; raw regions 10 × P × (S + 1)"
 abbrev pub needed : State → Sizes
 needed x = record {
-  nets1 = (x .pairs + limit) * (4 * x .width1);
-  nets2 = (x .pairs + limit) * (4 * x .width2);
-  ranges = (x .pairs + limit) * 4;
+  nets1 = (x .tally .pairs + limit) * (4 * x .width1);
+  nets2 = (x .tally .pairs + limit) * (4 * x .width2);
+  ranges = (x .tally .pairs + limit) * 4;
   -- one a node
-  depths = (x .pairs + limit) * 1;
-  raw = recordsOf x * 10;
+  depths = (x .tally .pairs + limit) * 1;
+  raw = recordsOf (x .tally) * 10;
 }
 
 -- the own verdict is lent the nets and the depths, a step the ranges and the raw regions too
@@ -80,7 +83,7 @@ enoughOwn need have = leb (need .nets1) (have .nets1) && (leb (need .nets2) (hav
 abbrev pub enough : Sizes → Sizes → Bool
 enough need have = enoughOwn need have && (leb (need .ranges) (have .ranges) && leb (need .raw) (have .raw))
 
--- ---- "a state that is no search's": the five tests
+-- ---- "a state that is no search's": the five tests, and "A state whose three don't sum so meets 19"
 -- the depth in slot k
 abbrev pub depthAt : List ℕ → ℕ → ℕ
 depthAt depths k = getD (block 1 k depths) 0 0
@@ -90,12 +93,13 @@ abbrev pub topFits : ℕ → ℕ → ℕ → Bool
 topFits P zero d = true
 topFits P (suc k) d = leb (suc k) (P + d) && leb d limit
 
-abbrev pub searchWith : State → ℕ → Bool
-searchWith x d =
-    topFits (x .pairs) (x .waiting) d
-    && (eqb (x .pairs + x .splits) (x .settled + x .given + x .waiting)
-    && (eqb (x .splits + x .unspent) (allowanceOf x)
-    && leb (x .visits) (x .splits + x .settled + x .given + 1)))
+abbrev pub searchWith : Tally → ℕ → Bool
+searchWith t d =
+    topFits (t .pairs) (t .waiting) d
+    && (eqb (t .pairs + t .splits) (t .settled + t .given + t .waiting)
+    && (eqb (t .splits + t .unspent) (allowanceOf t)
+    && (eqb (t .settled) (t .boxes + t .planes + t .lines)
+    && leb (t .visits) (t .splits + t .settled + t .given + 1))))
 
 -- the top node's depth, of so many waiting
 abbrev pub topDepth : ℕ → List ℕ → ℕ
@@ -103,27 +107,30 @@ topDepth zero depths = 0
 topDepth (suc k) depths = depthAt depths k
 
 abbrev pub isSearch : State → Memory → Bool
-isSearch x u = searchWith x (topDepth (x .waiting) (u .depths))
+isSearch x u = searchWith (x .tally) (topDepth (x .tally .waiting) (u .depths))
 
 abbrev pub isZero : ℕ → Bool
 isZero zero = true
 isZero (suc n) = false
 
 -- the search has ended: a split came due at no allowance, or no node waits
-abbrev pub over : State → Bool
-over x = x .stopped || isZero (x .waiting)
+abbrev pub over : Tally → Bool
+over t = t .stopped || isZero (t .waiting)
 
 -- the result; left is the nodes waiting at the end
-abbrev pub countsOf : State → Counts
-countsOf x =
+abbrev pub countsOf : Tally → Counts
+countsOf t =
     record {
-      pairs = x .pairs;
-      visits = x .visits;
-      splits = x .splits;
-      settled = x .settled;
-      given = x .given;
-      left = cond (over x) (x .waiting) 0;
-      unspent = x .unspent;
+      pairs = t .pairs;
+      visits = t .visits;
+      splits = t .splits;
+      settled = t .settled;
+      boxes = t .boxes;
+      planes = t .planes;
+      lines = t .lines;
+      given = t .given;
+      left = cond (over t) (t .waiting) 0;
+      unspent = t .unspent;
     }
 
 -- ---- what a call finds on top
@@ -133,7 +140,7 @@ topNumber Ended = 20
 topNumber NoRoom = 19
 
 -- 20, then 19: for a slice too short, `room` being false, or a state that is no search's
-abbrev pub topOf : State → Bool → List ℕ → Top
-topOf x room depths =
-    let d = topDepth (x .waiting) depths in
-    cond (over x) Ended (cond (room && searchWith x d) (Node (x .waiting - 1) d) NoRoom)
+abbrev pub topOf : Tally → Bool → List ℕ → Top
+topOf t room depths =
+    let d = topDepth (t .waiting) depths in
+    cond (over t) Ended (cond (room && searchWith t d) (Node (t .waiting - 1) d) NoRoom)

@@ -1,11 +1,12 @@
 // The state of a search, and number 19's tests of it and of the lent memory.
 ghost use mathlib.Core.Path.{_≡_};
 ghost use Prim.Native.Nat.{_+_, _*_, _≤_};
+ghost use lib.Dec.{eqb};
 ghost use Rattle.states.specs.States.{allowanceOf, recordsOf, needed, enough, enoughOwn, topDepth, topFits, searchWith, over, countsOf, topOf, firstState};
 use terms::Terms;
 
-// All that a search is, but for the nodes and regions in the lent memory.
-pub struct State {
+// The whole numbers of a search.
+pub struct Tally {
     // starting pairs, P
     pub pairs: u16,
     // splits per pair, S
@@ -20,12 +21,21 @@ pub struct State {
     // nodes settled, and nodes given up
     pub settled: u32,
     pub given: u32,
+    // a split came due with no allowance left
+    pub stopped: bool,
+    // of the nodes settled, those by their boxes, by a plane, along one line
+    pub boxes: u32,
+    pub planes: u32,
+    pub lines: u32,
+}
+
+// All that a search is, but for the nodes and regions in the lent memory.
+pub struct State {
+    pub tally: Tally,
     // points of each line's nets
     pub width1: u8,
     pub width2: u8,
     pub gap: f64,
-    // a split came due with no allowance left
-    pub stopped: bool,
     // what only the report reads
     pub terms: Terms,
 }
@@ -36,6 +46,9 @@ pub struct Counts {
     pub visits: u64,
     pub splits: u32,
     pub settled: u32,
+    pub boxes: u32,
+    pub planes: u32,
+    pub lines: u32,
     pub given: u32,
     // nodes waiting at the end; 0 before it
     pub left: u32,
@@ -55,66 +68,74 @@ pub fn fresh(pairs: usize, splits: u32, w1: usize, w2: usize, gap: f64, terms: T
     ensures { λ r. ⌜ r ≡ firstState pairs splits w1 w2 gap terms ⌝ }
 {
     State {
-        pairs: pairs as u16,
-        quota: splits as u16,
-        waiting: pairs as u32,
-        visits: 0,
-        splits: 0,
-        unspent: splits * pairs as u32,
-        settled: 0,
-        given: 0,
+        tally: Tally {
+            pairs: pairs as u16,
+            quota: splits as u16,
+            waiting: pairs as u32,
+            visits: 0,
+            splits: 0,
+            unspent: splits * pairs as u32,
+            settled: 0,
+            boxes: 0,
+            planes: 0,
+            lines: 0,
+            given: 0,
+            stopped: false,
+        },
         width1: w1 as u8,
         width2: w2 as u8,
         gap,
-        stopped: false,
         terms,
     }
 }
 
-pub fn ended(st: State) -> bool
-    ensures { λ r. ⌜ r ≡ over st ⌝ }
+pub fn ended(t: Tally) -> bool
+    ensures { λ r. ⌜ r ≡ over t ⌝ }
 {
-    if st.stopped {
+    if t.stopped {
         return true;
     }
-    st.waiting == 0
+    t.waiting == 0
 }
 
 // The result: "pairs, visits (steps taken), splits, settled, given, left".
-pub fn result(st: State) -> Counts
-    ensures { λ r. ⌜ r ≡ countsOf st ⌝ }
+pub fn result(t: Tally) -> Counts
+    ensures { λ r. ⌜ r ≡ countsOf t ⌝ }
 {
-    let left = if ended(st) { st.waiting } else { 0 };
+    let left = if ended(t) { t.waiting } else { 0 };
     Counts {
-        pairs: st.pairs,
-        visits: st.visits,
-        splits: st.splits,
-        settled: st.settled,
-        given: st.given,
+        pairs: t.pairs,
+        visits: t.visits,
+        splits: t.splits,
+        settled: t.settled,
+        boxes: t.boxes,
+        planes: t.planes,
+        lines: t.lines,
+        given: t.given,
         left,
-        unspent: st.unspent,
+        unspent: t.unspent,
     }
 }
 
 // The splits that a search may make, S × P.
-fn allowance(st: State) -> u32
-    ensures { λ r. ⌜ r ≡ allowanceOf st ⌝ }
+fn allowance(t: Tally) -> u32
+    ensures { λ r. ⌜ r ≡ allowanceOf t ⌝ }
 {
-    st.quota as u32 * st.pairs as u32
+    t.quota as u32 * t.pairs as u32
 }
 
 // How many regions there can be: one a starting pair, and one more a split.
-pub fn records(st: State) -> usize
-    ensures { λ r. ⌜ r ≡ recordsOf st ⌝ }
+pub fn records(t: Tally) -> usize
+    ensures { λ r. ⌜ r ≡ recordsOf t ⌝ }
 {
-    st.pairs as usize + allowance(st) as usize
+    t.pairs as usize + allowance(t) as usize
 }
 
 // Whether nets and depths of these lengths are enough for the own verdict.
 pub fn has_room_to_judge(st: State, nets1: usize, nets2: usize, depths: usize) -> bool
     ensures { λ r. ⌜ r ≡ enoughOwn (needed st) (record { nets1 = nets1; nets2 = nets2; ranges = 0; depths = depths; raw = 0 }) ⌝ }
 {
-    let nodes = st.pairs as usize + 64;
+    let nodes = st.tally.pairs as usize + 64;
     if nets1 < nodes * (4 * (st.width1 as usize)) {
         return false;
     }
@@ -139,10 +160,10 @@ pub fn has_room(
     if !has_room_to_judge(st, nets1, nets2, depths) {
         return false;
     }
-    if ranges < (st.pairs as usize + 64) * 4 {
+    if ranges < (st.tally.pairs as usize + 64) * 4 {
         return false;
     }
-    raw >= records(st) * 10
+    raw >= records(st.tally) * 10
 }
 
 // The depth of the top node of so many waiting; 0 where its slot isn't lent.
@@ -172,38 +193,49 @@ fn top_fits(pairs: u16, waiting: u32, depth: u8) -> bool
     depth <= 64
 }
 
-// Whether the state, with the top node's depth, is some search's.
-pub fn is_search(st: State, depth: u8) -> bool
-    ensures { λ r. ⌜ r ≡ searchWith st depth ⌝ }
+// Whether the nodes settled by box, plane and line are all that were settled.
+fn tags_sum(settled: u32, boxes: u32, planes: u32, lines: u32) -> bool
+    ensures { λ r. ⌜ r ≡ eqb settled (boxes + planes + lines) ⌝ }
 {
-    if !top_fits(st.pairs, st.waiting, depth) {
+    settled as u64 == boxes as u64 + planes as u64 + lines as u64
+}
+
+// Whether the state, with the top node's depth, is some search's.
+pub fn is_search(t: Tally, depth: u8) -> bool
+    ensures { λ r. ⌜ r ≡ searchWith t depth ⌝ }
+{
+    if !top_fits(t.pairs, t.waiting, depth) {
         return false;
     }
-    let splits = st.splits as u64;
-    let settled = st.settled as u64;
-    let given = st.given as u64;
-    if st.pairs as u64 + splits != settled + given + st.waiting as u64 {
+    let splits = t.splits as u64;
+    let settled = t.settled as u64;
+    let given = t.given as u64;
+    let waiting = t.waiting as u64;
+    if t.pairs as u64 + splits != settled + given + waiting {
         return false;
     }
-    if splits + st.unspent as u64 != allowance(st) as u64 {
+    if splits + t.unspent as u64 != allowance(t) as u64 {
         return false;
     }
-    st.visits <= splits + settled + given + 1
+    if !tags_sum(t.settled, t.boxes, t.planes, t.lines) {
+        return false;
+    }
+    t.visits <= splits + settled + given + 1
 }
 
 // What a step or the own verdict finds on top, the slices lent to it being long enough or not: 20, then 19, else the top node.
-pub fn top_node(st: State, room: bool, depths: &[u8]) -> Top
-    ensures { λ r. ⌜ r ≡ topOf st room (now (depths .entry)) ⌝ }
+pub fn top_node(t: Tally, room: bool, depths: &[u8]) -> Top
+    ensures { λ r. ⌜ r ≡ topOf t room (now (depths .entry)) ⌝ }
 {
-    if ended(st) {
+    if ended(t) {
         return Top::Ended;
     }
     if !room {
         return Top::NoRoom;
     }
-    let depth = top_depth(depths, st.waiting);
-    if !is_search(st, depth) {
+    let depth = top_depth(depths, t.waiting);
+    if !is_search(t, depth) {
         return Top::NoRoom;
     }
-    Top::Node(st.waiting - 1, depth)
+    Top::Node(t.waiting - 1, depth)
 }

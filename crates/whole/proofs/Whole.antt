@@ -30,9 +30,9 @@ use Rattle.whole.specs.Refusals.{Faultless}
 use Rattle.whole.proofs.Refusals.{Met, faulty, opens, met, fault-numbered, fault-printed}
 
 -- ---- an open search: the loop ends, and its report is printed
-few-records : (q : Question) (x : State) → openDef q (zeros 8112) (zeros 8112) lent .answer ≡ Open x → recordsOf x * 10 ≤ length (zeros 8190)
+few-records : (q : Question) (x : State) → openDef q (zeros 8112) (zeros 8112) lent .answer ≡ Open x → recordsOf (x .tally) * 10 ≤ length (zeros 8190)
 few-records q x e =
-    opened-fresh q (zeros 8112) (zeros 8112) lent x (λ (y : State) (m : Memory). recordsOf y * 10 ≤ length (zeros 8190))
+    opened-fresh q (zeros 8112) (zeros 8112) lent x (λ (y : State) (m : Memory). recordsOf (y .tally) * 10 ≤ length (zeros 8190))
     (λ F room. room-of (searchFor q) (sizes lent) room .raw) e
 
 marks-room : (n : ℕ) → n * 10 ≤ length (zeros 8190) → n ≤ length zeroMarks

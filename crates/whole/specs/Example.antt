@@ -22,7 +22,7 @@ lineWords =
 abbrev pub example : List ℕ
 example = joined (map wordBytes (lineWords ++ (lineWords ++ (0x6000_0000 ∷ 0 ∷ 0 ∷ 0 ∷ 0x3ff0_0000 ∷ 0 ∷ 0 ∷ 0 ∷ 0x3ff0_0000 ∷ 0 ∷ 0 ∷ 0x7000_0000 ∷ []))))
 
--- "unseparated pairs=1 visits=1 splits=0 settled=0 given=1 left=0 regions=1" and the line's end
+-- "unseparated pairs=1 visits=1 splits=0 settled=0 box=0 plane=0 line=0 given=1 left=0 regions=1" and the line's end
 abbrev pub countBytes : List ℕ
 countBytes =
     117 ∷ 110 ∷ 115 ∷ 101 ∷ 112 ∷ 97 ∷ 114 ∷ 97 ∷ 116 ∷ 101 ∷ 100
@@ -30,6 +30,9 @@ countBytes =
     ∷ 32 ∷ 118 ∷ 105 ∷ 115 ∷ 105 ∷ 116 ∷ 115 ∷ 61 ∷ 49
     ∷ 32 ∷ 115 ∷ 112 ∷ 108 ∷ 105 ∷ 116 ∷ 115 ∷ 61 ∷ 48
     ∷ 32 ∷ 115 ∷ 101 ∷ 116 ∷ 116 ∷ 108 ∷ 101 ∷ 100 ∷ 61 ∷ 48
+    ∷ 32 ∷ 98 ∷ 111 ∷ 120 ∷ 61 ∷ 48
+    ∷ 32 ∷ 112 ∷ 108 ∷ 97 ∷ 110 ∷ 101 ∷ 61 ∷ 48
+    ∷ 32 ∷ 108 ∷ 105 ∷ 110 ∷ 101 ∷ 61 ∷ 48
     ∷ 32 ∷ 103 ∷ 105 ∷ 118 ∷ 101 ∷ 110 ∷ 61 ∷ 49
     ∷ 32 ∷ 108 ∷ 101 ∷ 102 ∷ 116 ∷ 61 ∷ 48
     ∷ 32 ∷ 114 ∷ 101 ∷ 103 ∷ 105 ∷ 111 ∷ 110 ∷ 115 ∷ 61 ∷ 49 ∷ 10 ∷ []

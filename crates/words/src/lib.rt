@@ -4,10 +4,12 @@ ghost use mathlib.Core.Bool.{true};
 ghost use Prim.Native.Nat.{_≤_};
 ghost use lib.ListN.{length};
 ghost use Rattle.lists.specs.Parts.{patch};
-ghost use Rattle.verdicts.specs.Verdicts.{verdictNumber};
-ghost use Rattle.words.specs.Words.{flagOf, wordsOf, movedWords, wordTerms, stateOf, countsFit, isWidth, areZero, turnsFit, isState, Within, verdictOf};
+ghost use Rattle.verdicts.specs.Verdicts.{testNumber, verdictNumber};
+ghost use Rattle.words.specs.Words.{flagOf, wordsOf, movedWords, tallyIn, wordTerms, stateOf, countsFit, isWidth, tagsFit, areZero, turnsFit, isState, Within, verdictOf};
 use states::State;
+use states::Tally;
 use terms::Terms;
+use verdicts::Test;
 use verdicts::Verdict;
 
 // ---- which words are a state's
@@ -39,6 +41,20 @@ fn counts_fit(w: &[u64]) -> bool
         return false;
     }
     w[10] <= 1
+}
+
+// The nodes settled by box, plane and line.
+fn tags_fit(w: &[u64]) -> bool
+    requires { ⌜ 23 ≤ length (now w) ⌝ }
+    ensures { λ r. ⌜ r ≡ tagsFit (now (w .entry)) ⌝ }
+{
+    if w[12] > 4294967295 {
+        return false;
+    }
+    if w[13] > 4294967295 {
+        return false;
+    }
+    w[14] <= 4294967295
 }
 
 // The points of a net, degree + 1.
@@ -74,7 +90,7 @@ fn turns_fit(w: &[u64]) -> bool
     w[18] <= 1
 }
 
-// Whether the words are a state's: 23 or more, each within its bits. Words 12 to 16 have none.
+// Whether the words are a state's: 23 or more, each within its bits. Words 15 and 16 have none.
 pub fn is_state(w: &[u64]) -> bool
     ensures { λ r. ⌜ r ≡ isState (now (w .entry)) ⌝ }
 {
@@ -82,6 +98,9 @@ pub fn is_state(w: &[u64]) -> bool
         return false;
     }
     if !counts_fit(w) {
+        return false;
+    }
+    if !tags_fit(w) {
         return false;
     }
     if !is_width(w[8]) {
@@ -93,7 +112,7 @@ pub fn is_state(w: &[u64]) -> bool
     if !turns_fit(w) {
         return false;
     }
-    are_zero(&w[12..17])
+    are_zero(&w[15..17])
 }
 
 // ---- a state from words, and its words
@@ -112,11 +131,11 @@ fn read_terms(w: &[u64]) -> Terms
     }
 }
 
-pub fn read_state(w: &[u64]) -> State
+fn read_tally(w: &[u64]) -> Tally
     requires { ⌜ Within (now w) ⌝ }
-    ensures { λ r. ⌜ r ≡ stateOf (now (w .entry)) ⌝ }
+    ensures { λ r. ⌜ r ≡ tallyIn (now (w .entry)) ⌝ }
 {
-    State {
+    Tally {
         pairs: w[0] as u16,
         quota: w[1] as u16,
         waiting: w[2] as u32,
@@ -125,10 +144,22 @@ pub fn read_state(w: &[u64]) -> State
         unspent: w[5] as u32,
         settled: w[6] as u32,
         given: w[7] as u32,
+        stopped: w[10] == 1,
+        boxes: w[12] as u32,
+        planes: w[13] as u32,
+        lines: w[14] as u32,
+    }
+}
+
+pub fn read_state(w: &[u64]) -> State
+    requires { ⌜ Within (now w) ⌝ }
+    ensures { λ r. ⌜ r ≡ stateOf (now (w .entry)) ⌝ }
+{
+    State {
+        tally: read_tally(w),
         width1: w[8] as u8,
         width2: w[9] as u8,
         gap: patterns::float(w[11]),
-        stopped: w[10] == 1,
         terms: read_terms(w),
     }
 }
@@ -149,24 +180,25 @@ fn wide(x: u8) -> u64
 }
 
 fn state_words(st: State) -> [u64; 23]
-    ensures { λ r. ⌜ (r ≡ wordsOf st) × (countsFit (wordsOf st) ≡ true) ⌝ }
+    ensures { λ r. ⌜ (r ≡ wordsOf st) × (countsFit (wordsOf st) ≡ true) × (tagsFit (wordsOf st) ≡ true) ⌝ }
 {
+    let t = st.tally;
     [
-        st.pairs as u64,
-        st.quota as u64,
-        st.waiting as u64,
-        st.visits,
-        st.splits as u64,
-        st.unspent as u64,
-        st.settled as u64,
-        st.given as u64,
+        t.pairs as u64,
+        t.quota as u64,
+        t.waiting as u64,
+        t.visits,
+        t.splits as u64,
+        t.unspent as u64,
+        t.settled as u64,
+        t.given as u64,
         wide(st.width1),
         wide(st.width2),
-        flag(st.stopped),
+        flag(t.stopped),
         patterns::pattern(st.gap),
-        0,
-        0,
-        0,
+        t.boxes as u64,
+        t.planes as u64,
+        t.lines as u64,
         0,
         0,
         flag(st.terms.turn1),
@@ -206,33 +238,53 @@ pub fn move_state(st: State, w: &mut [u64])
     ensures { λ _. ⌜ now (w .exit) ≡ movedWords (now (w .entry)) st ⌝ }
     ensures { λ _. ⌜ (isState (now (w .entry)) ≡ true → isState (now (w .exit)) ≡ true) ⌝ }
 {
-    w[2] = st.waiting as u64;
-    w[3] = st.visits;
-    w[4] = st.splits as u64;
-    w[5] = st.unspent as u64;
-    w[6] = st.settled as u64;
-    w[7] = st.given as u64;
-    w[10] = flag(st.stopped);
+    let t = st.tally;
+    w[2] = t.waiting as u64;
+    w[3] = t.visits;
+    w[4] = t.splits as u64;
+    w[5] = t.unspent as u64;
+    w[6] = t.settled as u64;
+    w[7] = t.given as u64;
+    w[10] = flag(t.stopped);
+    w[12] = t.boxes as u64;
+    w[13] = t.planes as u64;
+    w[14] = t.lines as u64;
 }
 
 // ---- verdicts as numbers
+
+fn test_number(t: Test) -> u32
+    ensures { λ r. ⌜ r ≡ testNumber t ⌝ }
+{
+    match t {
+        Test::Box => 1,
+        Test::Plane => 4,
+        Test::Line => 5,
+    }
+}
 
 pub fn verdict_number(v: Verdict) -> u32
     ensures { λ r. ⌜ r ≡ verdictNumber v ⌝ }
 {
     match v {
-        Verdict::Settled => 1,
+        Verdict::Settled(t) => test_number(t),
         Verdict::Split => 2,
         Verdict::Unseparated => 3,
     }
 }
 
-// 1 is Settled, 2 Split, every other number Unseparated.
+// 1, 4 and 5 are Settled by box, plane and line, 2 Split, every other number Unseparated.
 pub fn verdict_of(n: u32) -> Verdict
     ensures { λ r. ⌜ r ≡ verdictOf n ⌝ }
 {
     if n == 1 {
-        return Verdict::Settled;
+        return Verdict::Settled(Test::Box);
+    }
+    if n == 4 {
+        return Verdict::Settled(Test::Plane);
+    }
+    if n == 5 {
+        return Verdict::Settled(Test::Line);
     }
     if n == 2 {
         return Verdict::Split;

@@ -25,7 +25,10 @@ split-ranges-requires : tie.Need-split-ranges-requires
 split-ranges-requires c κs = search needs
 
 deepen-requires : tie.Need-deepen-requires
-deepen-requires c κs = search needs
+deepen-requires c κs =
+    let z = c .before .before .before .before .before .before .before .before .before .before in
+    let pre = z .before .before .before .before .before .before .before .before .before .before .pre in
+    (pre .0 .depths, pre .1)
 
 same-length : tie.Need-same-length
 same-length c = search needs

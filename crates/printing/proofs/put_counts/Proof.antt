@@ -10,8 +10,11 @@ put-word-requires c κs = search needs
 put-steps-requires : tie.Need-put-steps-requires
 put-steps-requires c κs = search needs
 
-put-nodes-requires : tie.Need-put-nodes-requires
-put-nodes-requires c κs = search needs
+put-settled-requires : tie.Need-put-settled-requires
+put-settled-requires c κs = search needs
+
+put-listed-requires : tie.Need-put-listed-requires
+put-listed-requires c κs = search needs
 
 slice-aggregate-put-count : tie.Need-slice-aggregate-put-count
 slice-aggregate-put-count c = search needs
@@ -31,11 +34,11 @@ same-length c = search needs
 returns : tie.Need-returns
 returns c =
     let b = c .before .before .before .before .before .before .before .before .before .before .before .before in
-    let args = b .before .before .before .before .before .before .before .before .before .before .before .args in
+    let args = b .before .before .before .before .before .before .before .before .before .before .before .before .before .before .before .args in
     counts-are (args .out .now) (args .w) (args .c) (args .regions) (search needs)
-    (b .before .before .before .before .before .before .before .before .put-word .ensures) (b .before .before .before .before .put-steps .ensures)
-    (b .put-nodes .ensures) (c .before .before .before .before .before .before .before .put-count .ensures)
-    (c .before .before .put-bytes .ensures)
+    (b .before .before .before .before .before .before .before .before .before .before .before .before .put-word .ensures)
+    (b .before .before .before .before .before .before .before .before .put-steps .ensures) (b .before .before .before .before .put-settled .ensures)
+    (b .put-listed .ensures) (c .before .before .before .before .before .before .before .put-count .ensures) (c .before .before .put-bytes .ensures)
 
 pub put-counts-spec : {M : Type 1} → statement M
 put-counts-spec =
@@ -43,7 +46,8 @@ put-counts-spec =
     (tie.spec
     put-word-requires
     put-steps-requires
-    put-nodes-requires
+    put-settled-requires
+    put-listed-requires
     slice-aggregate-put-count
     put-count-requires
     slice-aggregate-put-bytes

@@ -11,17 +11,17 @@ use Rattle.search.proofs.Acts.{unseparated-is, too-deep-is, stopped-is,
 use Rattle.search.proofs.advance.Statement.{statement}
 use Rattle.search.proofs.advance.Tie as tie
 
+enum-known-v : tie.Need-enum-known-v
+enum-known-v c = search needs
+
 enum-told : tie.Need-enum-told
 enum-told c = search needs
-
-enum-told-2 : tie.Need-enum-told-2
-enum-told-2 c = search needs
 
 give-up-requires : tie.Need-give-up-requires
 give-up-requires c κs = search needs
 
-enum-told-3 : tie.Need-enum-told-3
-enum-told-3 c = search needs
+enum-told-2 : tie.Need-enum-told-2
+enum-told-2 c = search needs
 
 give-up-requires-2 : tie.Need-give-up-requires-2
 give-up-requires-2 c κs = search needs
@@ -38,7 +38,7 @@ returns c =
     let pre = c .before .before .before .before .before .before .before .before .before .before .before .before .before .pre in
     let R = pre .0 in
     let u = memory (args .nets1 .now) (args .nets2 .now) (args .ranges .now) (args .depths .now) (args .raw .now) in
-    let v = ap (λ (v : Verdict). actOn geometry (suc (args .k)) v (args .st) u) (sym (c .before .before .before .before .before .before .enum-told3 .given .1)) in (
+    let v = ap (λ (v : Verdict). actOn geometry (suc (args .k)) v (args .st) u) (sym (c .before .before .before .before .before .before .enum-told2 .given .1)) in (
       too-deep-is (args .st) u (args .k) (args .depth) (args .a) (args .b) (pre .1 .0) (pre .1 .1) _ (pre .1 .2)
           (c .before .before .before .before .before .if1 .taken) (c .before .before .give-up2 .ensures) ∙ v,
       (omega (arith, R .closed, R .top), R .steps),
@@ -50,7 +50,7 @@ returns-2 c =
     let pre = c .before .before .before .before .before .before .before .before .before .before .pre in
     let R = pre .0 in
     let u = memory (args .nets1 .now) (args .nets2 .now) (args .ranges .now) (args .depths .now) (args .raw .now) in
-    let v = ap (λ (v : Verdict). actOn geometry (suc (args .k)) v (args .st) u) (sym (c .before .before .before .enum-told3 .given .1)) in (
+    let v = ap (λ (v : Verdict). actOn geometry (suc (args .k)) v (args .st) u) (sym (c .before .before .before .enum-told2 .given .1)) in (
       stopped-is (args .st) u (args .k) (args .depth) (args .a) (args .b) (pre .1 .0) (pre .1 .1) (pre .1 .2) (c .before .before .if1 .left)
           (c .if2 .taken) ∙ v,
       (c .if2 .taken, R .steps),
@@ -65,12 +65,12 @@ halve-requires c κs =
 
 returns-3 : tie.Need-returns-3
 returns-3 c =
-    let args = c .before .before .before .before .before .before .before .args in
-    let pre = c .before .before .before .before .before .before .before .pre in
+    let args = c .before .before .before .before .before .before .before .before .args in
+    let pre = c .before .before .before .before .before .before .before .before .pre in
     let R = pre .0 in
     let u = memory (args .nets1 .now) (args .nets2 .now) (args .ranges .now) (args .depths .now) (args .raw .now) in
-    let v = ap (λ (v : Verdict). actOn geometry (suc (args .k)) v (args .st) u) (sym (c .enum-told .given .1)) in
-    (v, (omega (arith, R .closed, R .top), R .steps))
+    let v = ap (λ (v : Verdict). actOn geometry (suc (args .k)) v (args .st) u) (sym (c .before .v .given .1)) in
+    (v, (omega (arith, R .closed, R .top), R .steps, omega (arith, R .closed, R .top, R .tags), omega (arith, R .closed, R .top, R .tags), omega (arith, R .closed, R .top, R .tags)))
 
 same-length-3 : tie.Need-same-length-3
 same-length-3 c = search needs
@@ -84,7 +84,7 @@ returns-4 c =
     let pre = c .before .before .before .before .before .before .before .before .before .before .before .before .pre in
     let R = pre .0 in
     let u = memory (args .nets1 .now) (args .nets2 .now) (args .ranges .now) (args .depths .now) (args .raw .now) in
-    let v = ap (λ (v : Verdict). actOn geometry (suc (args .k)) v (args .st) u) (sym (c .before .before .before .before .before .enum-told2 .given .1)) in (
+    let v = ap (λ (v : Verdict). actOn geometry (suc (args .k)) v (args .st) u) (sym (c .before .before .before .before .before .enum-told .given .1)) in (
       unseparated-is (args .st) u (args .k) (args .depth) (args .a) (args .b) (pre .1 .0) (pre .1 .1) _ (c .before .before .give-up .ensures) ∙ v,
       (omega (arith, R .closed, R .top), R .steps),
     )
@@ -108,10 +108,10 @@ returns-5 c =
     let pre = b .before .before .before .before .before .before .before .before .before .before .pre in
     let R = pre .0 in
     let u = memory (args .nets1 .now) (args .nets2 .now) (args .ranges .now) (args .depths .now) (args .raw .now) in
-    let v = ap (λ (v : Verdict). actOn geometry (suc (args .k)) v (args .st) u) (sym (b .before .before .before .enum-told3 .given .1)) in
+    let v = ap (λ (v : Verdict). actOn geometry (suc (args .k)) v (args .st) u) (sym (b .before .before .before .enum-told2 .given .1)) in
     let shallow = b .before .before .if1 .left in
     let some = b .if2 .left in
-    let one : 1 ≤ args .st .unspent = search needs in
+    let one : 1 ≤ args .st .tally .unspent = search needs in
     let h = c .before .before .before .before .before .before .before .before .halve .ensures in (
       halved-is (args .st) u (args .k) (args .depth) (args .a) (args .b) (pre .1 .0) (pre .1 .1) _ _ _ _ (pre .1 .2) shallow one (R .nets1) (R .nets2)
           (h .0) (h .1) (h .2) (h .3) ∙ v,
@@ -122,10 +122,10 @@ pub advance-spec : {M : Type 1} → statement M
 advance-spec =
     tie.close
     (tie.spec
+    enum-known-v
     enum-told
-    enum-told-2
     give-up-requires
-    enum-told-3
+    enum-told-2
     give-up-requires-2
     same-length
     same-length-2

@@ -14,9 +14,9 @@ cast-result-2 c = search needs
 
 mul-result : tie.Need-mul-result
 mul-result c =
-    let st = c .before .before .args .st in
-    let a : st .quota ≤ 65535 = omega arith in
-    let b : st .pairs ≤ 65535 = omega arith in
+    let t = c .before .before .args .t in
+    let a : t .quota ≤ 65535 = omega arith in
+    let b : t .pairs ≤ 65535 = omega arith in
     let w = mul-le-mul a b in
     omega (arith, w)
 
