@@ -4,7 +4,7 @@
   bench.py [--runs N] [--library ARCHIVE] [--program PROGRAM] RUST
 
 RUST is a release build of the Rust's sheet program that takes `--bench N`: it answers the sheet on standard input
-N times in one process. ARCHIVE is the library as `rt staticlib lovgurshem` writes it, PROGRAM the sheet program as
+N times in one process; it gets each sheet in document 01's form, without data. ARCHIVE is the library as `rt staticlib lovgurshem` writes it, PROGRAM the sheet program as
 `rt check clearance` does; both defaults are below target/. docs/BENCHMARKS.md says how the Rust is built.
 
 Each side answers the sheet, from its bytes to the printed text, as many times in one process as the Rust needs for
@@ -22,7 +22,7 @@ import sys
 import tempfile
 
 import bench_sheets
-from sheets import at_level
+from sheets import at_level, in_form
 
 HERE = os.path.dirname(os.path.abspath(__file__))
 TARGET = os.path.join(HERE, '..', 'target')
@@ -30,12 +30,12 @@ SPAN = 333000  # microseconds
 
 
 class Side:
-    def __init__(self, measure, repeated, once):
-        self.measure, self.repeated, self.once = measure, repeated, once
+    def __init__(self, measure, repeated, once, level=104):
+        self.measure, self.repeated, self.once, self.level = measure, repeated, once, level
 
     def run(self, command, data, stack=0):
         """(user microseconds, peak KB, wait status, output)"""
-        done = subprocess.run([self.measure, str(stack)] + command, input=data, stdout=subprocess.PIPE, stderr=subprocess.PIPE)
+        done = subprocess.run([self.measure, str(stack)] + command, input=in_form(data, self.level), stdout=subprocess.PIPE, stderr=subprocess.PIPE)
         time, peak, status = (int(w) for w in done.stderr.split()[-3:])
         return time, peak, status, done.stdout
 
@@ -93,7 +93,7 @@ def main(args):
     with tempfile.TemporaryDirectory() as folder:
         measure = compiled(folder, 'measure')
         loop = compiled(folder, 'loop', [given['--library']])
-        rust = Side(measure, [args[0], '--bench'], [args[0]])
+        rust = Side(measure, [args[0], '--bench'], [args[0]], level=1)
         here = Side(measure, [loop], [given['--program']])
         calls = Side(measure, [compiled(folder, 'calls', [given['--library']])], [])
         print('| sheet | pairs | visits | raw regions | regions | Rust, µs | here, µs | ratio | calls, µs |\n|---|---|---|---|---|---|---|---|---|')

@@ -9,7 +9,7 @@
 #define SLICE(a) (a), sizeof (a) / sizeof *(a)
 
 struct line {
-    uint32_t closed, degree, mults[4096];
+    uint32_t closed, degree, datum, mults[4096];
     double knots[2048], coords[2048], weights[2048];
     size_t knot_count, mult_count, coord_count, weight_count;
 };
@@ -49,6 +49,7 @@ static void read_line(struct line *l)
     next += l->mult_count;
     l->coord_count = floats(l->coords, 3 * count_of(4));
     if (next < word_count && words[next] >> 28 == 5) l->weight_count = floats(l->weights, count_of(5));
+    l->datum = (uint32_t)count_of(9);
 }
 
 /* The own verdict to each step, until the search ends: 0 or the number of a refusal. */
@@ -75,8 +76,8 @@ int main(int argc, char **argv)
     if (turns < 1) return 2;
     for (long i = 0; i < turns; i++)
         if (lovgurshem_open(asked[0], asked[1], asked[2], asked[3], asked[4], splits,
-                first.closed, first.degree, first.knots, first.knot_count, first.mults, first.mult_count, first.coords, first.coord_count, first.weights, first.weight_count,
-                second.closed, second.degree, second.knots, second.knot_count, second.mults, second.mult_count, second.coords, second.coord_count, second.weights, second.weight_count,
+                first.closed, first.degree, first.knots, first.knot_count, first.mults, first.mult_count, first.coords, first.coord_count, first.weights, first.weight_count, first.datum,
+                second.closed, second.degree, second.knots, second.knot_count, second.mults, second.mult_count, second.coords, second.coord_count, second.weights, second.weight_count, second.datum,
                 SLICE(pieces1), SLICE(pieces2), SLICE(nets1), SLICE(nets2), SLICE(ranges), SLICE(depths), SLICE(raw), SLICE(state)) != 0
             || (steps ? take_steps() : lovgurshem_run(SLICE(state), SLICE(nets1), SLICE(nets2), SLICE(ranges), SLICE(depths), SLICE(raw))) != 0
             || lovgurshem_report(SLICE(state), SLICE(nets1), SLICE(nets2), SLICE(ranges), SLICE(depths), SLICE(raw), SLICE(report), SLICE(marks), SLICE(counts)) != 0)

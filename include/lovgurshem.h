@@ -26,13 +26,14 @@
  * are called, and nothing else.
  *
  * NUMBERS. Answers of open, step, run and report are 0, or the number of the
- * refusal: 4 to 14 and 22 a line's fault, 15 to 18 the question's, 19 a slice
- * that is shorter than needed or a state that is no search's, 20 a search that
- * has ended, 21 one that hasn't. A line's fault, range or breaks (4 to 15, 18
- * and 22) have 256 times the line, 1 or 2, added. 1 to 18 and from 22 on leave
- * the words and every slice as they were. The numbers are tested in this order:
+ * refusal: 4 to 14 and 22 a line's fault, 23 lines that are not of one datum,
+ * 15 to 18 the question's fault, 19 a slice that is shorter than needed or a
+ * state that is no search's, 20 a search that has ended, 21 one that hasn't. A
+ * line's fault, range or breaks (4 to 15, 18 and 22) have 256 times the line, 1
+ * or 2, added, and 23 has 256 times 2. 1 to 18 and from 22 on leave the words
+ * and every slice as they were. The numbers are tested in this order:
  *   open     4 to 14 of the first line, with 22 of a closed one after 7; the
- *            same of the second; 15 to 18; 19 for the state's words and the
+ *            same of the second; 23; 15 to 18; 19 for the state's words and the
  *            pieces; 19 for the rest
  *   others   19 for words that are no state's (below), before everything else;
  *            then in own verdict and step 20, in report 21; then 19, in report
@@ -135,15 +136,16 @@ size_t lovgurshem_answer(const uint8_t *sheet, size_t sheet_length,
  * of the second, for this gap, with at most so many splits per pair.
  *
  * A line is a number, 0 for an open one and any other for a closed one, its
- * degree, distinct knots, their multiplicities, three coordinates a pole, and
- * one weight a pole; a count of 0 weights means that every weight is 1. A closed
- * line's period is its last knot less its first, rounded; its range starts from
- * the first knot on and below the last, and is, as rounded, no longer than the
- * period.
+ * degree, distinct knots, their multiplicities, three coordinates a pole, one
+ * weight a pole, and its datum; a count of 0 weights means that every weight is
+ * 1. A closed line's period is its last knot less its first, rounded; its range
+ * starts from the first knot on and below the last, and is, as rounded, no longer
+ * than the period.
  *
  * Refused in this order: 4 to 14 of the first line, 22 after 7, then of the
- * second; 15 to 18; 19 for fewer than LOVGURSHEM_STATE words or short pieces. So
- * far nothing is written. Then the pieces' nets are written to pieces1 and
+ * second; 23 when either datum isn't from 1 to 9,999 or the two differ; 15 to 18;
+ * 19 for fewer than LOVGURSHEM_STATE words or short pieces. So far nothing is
+ * written. Then the pieces' nets are written to pieces1 and
  * pieces2, and 19 is tested for nets, ranges, depths and raw, whose contents it
  * leaves, as it leaves the words. At 0 the first P slots of nets, ranges and
  * depths are the pairs' and the words are the state's; nothing else in any slice
@@ -156,11 +158,13 @@ uint32_t lovgurshem_open(double lo1, double hi1, double lo2, double hi2,
     const uint32_t *mults1, size_t mults1_length,
     const double *coords1, size_t coords1_length,
     const double *weights1, size_t weights1_length,
+    uint32_t datum1,
     uint32_t closed2, uint32_t degree2,
     const double *knots2, size_t knots2_length,
     const uint32_t *mults2, size_t mults2_length,
     const double *coords2, size_t coords2_length,
     const double *weights2, size_t weights2_length,
+    uint32_t datum2,
     double *pieces1, size_t pieces1_length,
     double *pieces2, size_t pieces2_length,
     double *nets1, size_t nets1_length,

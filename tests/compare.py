@@ -11,17 +11,18 @@ once a sheet. Answers are compared byte for byte with the first program's.
                 sheet, with --pieces)
   --no-drawn    leave the drawn sheets out
   --level L     the level of document 02: 1 (document 01), 100 (closed lines),
-                101 (stretch marks) or 103 (box=, plane= and line=, the
-                default). Sheets of higher levels are left out; below 103 the
-                three counts, below 101 the regions' marks too are dropped from
-                all answers, the stored ones too. A program of document 01 alone
-                answers two drawn sheets of level 1 otherwise: first-kind-8 and
-                second-kind-8, which M-100 reads as closed lines
-  --replay DIR  take the sheets from DIR/sheets.bin and hold every program
+                101 (stretch marks), 103 (box=, plane= and line=) or 104 (data,
+                the default). Sheets of higher levels are left out. Below 104
+                every sheet is in the form of before, whose lines have no datum,
+                stored ones too; below 103 the three counts, below 101 the
+                regions' marks too are dropped from all answers. A program of
+                document 01 alone answers two drawn sheets of level 1 otherwise:
+                first-kind-8 and second-kind-8, which M-100 reads as closed lines
+  --replay DIR  make the sheets from DIR/sheets.txt and hold every program
                 against DIR/answers.txt; SEED and N are left out
   --save DIR    where sheets with a difference are saved (default: .)
 
-At level 103 an answer whose three counts don't sum to settled, or with more
+From level 103 on an answer whose three counts don't sum to settled, or with more
 nodes settled by box than halves were made, is a difference too.
 Exit 1 on a difference.
 """
@@ -30,6 +31,7 @@ import os
 import subprocess
 import sys
 
+import sheet_text
 import sheets
 
 BATCH = 500
@@ -49,14 +51,14 @@ def run(command, data):
 
 
 class Program:
-    def __init__(self, path, pieces):
+    def __init__(self, path, pieces, level):
         self.path = os.path.abspath(path)
         self.name = path
         self.pieces = pieces
-        self.many = not pieces and self.takes_batches()
+        self.many = not pieces and self.takes_batches(level)
 
-    def takes_batches(self):
-        two = sheets.packed(sheets.example()) * 2
+    def takes_batches(self, level):
+        two = sheets.packed(sheets.in_form(sheets.example(), level)) * 2
         try:
             text = run([self.path, '--many'], two)
         except OSError as e:
@@ -155,9 +157,8 @@ class Comparison:
         print('%d sheets%s, %d different' % (self.count, grouped, self.different))
 
 
-def replay(folder):
-    with open(os.path.join(folder, 'sheets.bin'), 'rb') as f:
-        data = sheets.unpacked(f.read())
+def replay(folder, level):
+    data = sheet_text.file_sheets(os.path.join(folder, 'sheets.txt'), level)
     with open(os.path.join(folder, 'answers.txt')) as f:
         answers = parted(f.read())
     if answers is None or len(answers) != len(data):
@@ -169,19 +170,19 @@ def generated(seed, count, with_drawn, level):
     if with_drawn:
         for name, data in sheets.drawn_up_to(level):
             wanted = sheets.EXAMPLE_ANSWER if name == 'example' else None
-            yield 'drawn ' + name, data, wanted
+            yield 'drawn ' + name, sheets.in_form(data, level), wanted
     for i, (kind, data) in enumerate(sheets.random_sheets(seed, count, level)):
-        yield 'random %d (%s, seed %d)' % (i, kind, seed), data, None
+        yield 'random %d (%s, seed %d)' % (i, kind, seed), sheets.in_form(data, level), None
 
 
 def main(args):
-    flags = {'--pieces': False, '--no-drawn': False, '--level': '103', '--replay': None, '--save': '.'}
+    flags = {'--pieces': False, '--no-drawn': False, '--level': '104', '--replay': None, '--save': '.'}
     while args and args[0] in flags:
         flag = args.pop(0)
         flags[flag] = args.pop(0) if flag in ('--level', '--replay', '--save') else True
     level = int(flags['--level'])
     if flags['--replay']:
-        source = replay(flags['--replay'])
+        source = replay(flags['--replay'], level)
     elif len(args) >= 3:
         seed, count = int(args.pop(0)), int(args.pop(0))
         source = generated(seed, count, not flags['--no-drawn'], level)
@@ -189,7 +190,7 @@ def main(args):
         sys.exit(__doc__)
     if flags['--pieces'] and not flags['--replay']:
         source = ((name, data, None) for name, data, _ in source)
-    programs = [Program(path, flags['--pieces']) for path in args]
+    programs = [Program(path, flags['--pieces'], level) for path in args]
     os.makedirs(flags['--save'], exist_ok=True)
     comparison = Comparison(flags['--save'], level)
     for items in batches(source):

@@ -5,14 +5,21 @@
   sheets.py --list                  names of the drawn sheets with their sizes
   sheets.py --many SEED N           N random sheets on standard output, each a
                                     32-bit length and the bytes
-  sheets.py --replay DIR PROGRAM    writes DIR/sheets.bin and, from the answers
-                                    of PROGRAM, DIR/answers.txt
+  sheets.py --replay DIR PROGRAM    writes DIR/sheets.txt (tests/sheet_text.py)
+                                    and, from the answers of PROGRAM,
+                                    DIR/answers.txt
+  sheets.py --answers DIR PROGRAM   writes DIR/answers.txt alone, from the sheets
+                                    that stand in DIR/sheets.txt
   sheets.py --level L ...           --list, --many and --replay at a level of
                                     document 02: 1 (document 01, the default),
-                                    100 (closed lines), 101 (stretch marks) or
-                                    103 (settled by box, plane or line). --list
-                                    and --replay have that level's own sheets,
-                                    --many those of all levels up to it
+                                    100 (closed lines), 101 (stretch marks),
+                                    103 (settled by box, plane or line) or 104
+                                    (data). --list and --replay have that
+                                    level's own sheets, --many those of all
+                                    levels up to it
+
+All are written in the form of M-104, with a datum on each line; in_form(data, L)
+is a sheet in the form of an earlier level.
 
 From another script:
 
@@ -31,17 +38,14 @@ import struct
 import subprocess
 import sys
 
+from sheet_text import FORM, file_sheets, file_text, head, item_bytes, items_of, packed, sheet_from, sheet_of, spelled, text_of
+
 NAN = math.nan
 INF = math.inf
 BINADE = lambda e: math.ldexp(1.0, e)
 TINY = BINADE(-1074)
 
 # ---- words ------------------------------------------------------------------
-
-
-def head(kind, count):
-    """A word: the kind in the top 4 bits, the count in the other 28."""
-    return struct.pack('<I', (kind & 15) << 28 | (count & 0x0FFFFFFF))
 
 
 def floats(values):
@@ -55,16 +59,17 @@ def words(values):
 class Line:
     """A line's description; the fields may hold anything a sheet can hold."""
 
-    def __init__(self, degree, knots, mults, poles, weights=None, closed=False):
+    def __init__(self, degree, knots, mults, poles, weights=None, closed=False, datum=1):
         self.degree = degree
         self.knots = list(knots)
         self.mults = list(mults)
         self.poles = [tuple(p) for p in poles]
         self.weights = None if weights is None else list(weights)
         self.closed = closed
+        self.datum = datum
 
     def copy(self):
-        return Line(self.degree, self.knots, self.mults, self.poles, self.weights, self.closed)
+        return Line(self.degree, self.knots, self.mults, self.poles, self.weights, self.closed, self.datum)
 
     def flat(self):
         return [k for k, m in zip(self.knots, self.mults) for _ in range(min(m, 200))]
@@ -84,7 +89,7 @@ class Line:
         out += [floats(p) for p in self.poles]
         if self.weights is not None:
             out += [head(5, len(self.weights)), floats(self.weights)]
-        return b''.join(out)
+        return b''.join(out + [head(9, self.datum)])
 
 
 def line(degree, knots, mults, poles, weights=None):
@@ -132,19 +137,9 @@ def sheet(a, b, S=256, ranges=None, gap=0.0):
     return a.data() + b.data() + question(S, ranges, gap) + head(7, 0)
 
 
-def packed(data):
-    """A sheet as the batch format has it: its length, then its bytes."""
-    return struct.pack('<I', len(data)) + data
-
-
-def unpacked(data):
-    """The sheets of a batch."""
-    out, at = [], 0
-    while at < len(data):
-        n = struct.unpack_from('<I', data, at)[0]
-        out.append(data[at + 4:at + 4 + n])
-        at += 4 + n
-    return out
+def in_form(data, level):
+    """The sheet in the form of a level of document 02: before M-104 without the data of the lines that can be walked."""
+    return data if level >= FORM else sheet_from(text_of(data), level)
 
 
 # ---- lines and examples of document 01 ---------------------------------------
@@ -299,6 +294,7 @@ def word_faults():
     """Numbers 1 to 3, word by word."""
     good = example()
     a, q, end = UNIT.data(), question(0, [(0, 1), (0, 1)], 0.0), head(7, 0)
+    body, datum = a[:-4], a[-4:]
     for n in (0, 1, 2, 3, 4, 5, 16380, 16384, 16385, 16388, 20000):
         yield 'length-%d' % n, (good + bytes(20000))[:n]
     for n in (16384, 16385, 16388):
@@ -315,11 +311,11 @@ def word_faults():
     yield 'question-missing', a + a + end
     yield 'second-missing', a + q + end
     yield 'second-stops', a
-    yield 'weights-0', a + head(5, 0) + a + q + end
-    yield 'weights-0-second', a + a + head(5, 0) + q + end
-    yield 'weights-0-last-word', a + head(5, 0)
-    yield 'weights-twice', a + head(5, 2) + floats([1, 1]) + head(5, 2) + floats([1, 1]) + a + q + end
-    yield 'weights-huge', a + head(5, 0x0FFFFFFF) + a + q + end
+    yield 'weights-0', body + head(5, 0) + datum + a + q + end
+    yield 'weights-0-second', a + body + head(5, 0) + datum + q + end
+    yield 'weights-0-last-word', body + head(5, 0)
+    yield 'weights-twice', body + head(5, 2) + floats([1, 1]) + head(5, 2) + floats([1, 1]) + datum + a + q + end
+    yield 'weights-huge', body + head(5, 0x0FFFFFFF) + datum + a + q + end
     for kind in range(16):
         yield 'first-kind-%d' % kind, head(kind, 1) + good[4:]
         yield 'second-kind-%d' % kind, a + head(kind, 1) + a[4:] + q + end
@@ -1028,7 +1024,7 @@ def closed_words():
         yield 'closed-degree-%d' % degree, head(8, degree) + r[4:] + u + q + end
     yield 'closed-twice', head(8, 1) + r + u + q + end
     yield 'closed-after-open', head(1, 1) + r + u + q + end
-    yield 'closed-weights-0', r + head(5, 0) + u + q + end
+    yield 'closed-weights-0', r[:-4] + head(5, 0) + r[-4:] + u + q + end
     yield 'closed-as-end', u + u + q + head(8, 0)
 
 
@@ -1276,6 +1272,98 @@ def never_halved():
 def tagged_drawn():
     """All drawn sheets for the tags: (name, bytes)."""
     for part in (one_test, two_tests, three_tags, never_halved):
+        yield from part()
+
+
+# ---- drawn sheets with data (document 02, M-104) -----------------------------------
+
+MAX_COUNT = 0x0FFFFFFF
+# each with a fault of the second line and of the question
+HELD = [(0, 0), (1, 2), (9999, 9999), (10000, 10000), (65537, 1), (1, 0)]
+DATA = HELD + [(1, 1), (2, 2), (9998, 9998), (2, 1), (0, 1), (9999, 10000), (10000, 9999), (9999, 9998), (1, 9999), (1, 10000), (10000, 1),
+               (1, 65537), (65537, 65537), (257, 1), (1, 257), (1 << 27 | 1, 1), (1, 1 << 27 | 1), (0, MAX_COUNT), (MAX_COUNT, MAX_COUNT),
+               (65536, 65536), (65536, 0), (0, 10000), (16385, 1), (1, 16385)]
+WEIGHED = bezier([(0, 1, 0), (1, -1, 0), (2, 1, 0)], weights=[1, 2, 0.5])
+
+
+def dated(data, numbers):
+    """The sheet with these numbers as the data of its lines."""
+    left = list(numbers)
+    return sheet_of([['datum', str(left.pop(0))] if item[0] == 'datum' and left else item for item in spelled(items_of(data))])
+
+
+def data_pairs():
+    """Each pair of numbers, on lines open and closed, with and without weights."""
+    for pair in DATA:
+        for name, a, b in (('plain', A, CROSSING), ('weights', WEIGHED, A), ('weights-second', A, WEIGHED), ('closed', TRIANGLE, SPOKE)):
+            yield 'data-%d-%d-%s' % (pair + (name,)), dated(sheet(a, b, S=1), pair)
+
+
+def question_spoils():
+    """15 to 19 of A and a line that crosses it: the sheet's S, ranges and gap."""
+    yield '15', 2, [(0, 2), None], 0.0
+    yield '15-second', 2, [None, (NAN, 1)], 0.0
+    yield '16', 2, None, -1.0
+    yield '17', 257, None, 0.0
+    yield '18', 2, [(0, TINY), None], 0.0
+    yield '18-second', 2, [None, (0.5, after(0.5))], 0.0
+
+
+def data_faults():
+    """The numbers of HELD with each fault of a line, 4 to 14 and 22, in the second, the first and both, and with each of the question; with 19."""
+    rng = Rng(104)
+    for pair in HELD:
+        name = 'data-%d-%d' % pair
+        for number in list(range(4, 15)) + [22]:
+            bad = spoilt(number, rng) if number != 22 else basin(2, 2, 3)
+            if number == 22:
+                bad.mults[0] = 1
+            yield '%s-no%d-second' % (name, number), dated(sheet(A, bad, ranges=[None, (0, 1)]), pair)
+            yield '%s-no%d-first' % (name, number), dated(sheet(bad, A, ranges=[(0, 1), None]), pair)
+        yield name + '-both', dated(sheet(spoilt(14, rng), spoilt(4, rng), ranges=[(0, 1), (0, 1)]), pair)
+        for fault, s, ranges, gap in question_spoils():
+            yield '%s-no%s' % (name, fault), dated(sheet(A, CROSSING, s, ranges, gap), pair)
+        yield name + '-no19', dated(sheet(comb(13), segment((-1, 0.5, 0), (14, 0.5, 0)), S=0), pair)
+        yield name + '-nan-net', dated(sheet(NAN_NET, UNIT, S=4), pair)
+
+
+def data_words():
+    """The datum's word: missing, cut off, twice, another kind in its place, in other places."""
+    q, end, one = question(0, [(0, 1), (0, 1)], 0.0), head(7, 0), head(9, 1)
+    for name, l in (('plain', UNIT), ('weights', bezier([(0, 0, 0), (1, 0, 0)], weights=[1, 2])), ('closed', TRIANGLE)):
+        body = l.data()[:-4]
+        a = body + one
+        heads = {'first': 0, 'knots': 4, 'mults': 8 + 8 * len(l.knots), 'poles': 12 + 12 * len(l.knots), 'weights': 16 + 12 * len(l.knots) + 24 * len(l.poles)}
+        for kind in range(16):
+            yield 'datum-%s-kind-%d' % (name, kind), body + head(kind, 1) + a + q + end
+            yield 'datum-%s-kind-%d-second' % (name, kind), a + body + head(kind, 1) + q + end
+        for where, at in heads.items():
+            moved = body[:at] + one + body[at:]
+            yield 'datum-%s-before-%s' % (name, where), moved + a + q + end
+            yield 'datum-%s-before-%s-second' % (name, where), a + moved + q + end
+            yield 'datum-%s-before-%s-too' % (name, where), moved + one + a + q + end
+        yield 'datum-%s-twice' % name, a + one + a + q + end
+        yield 'datum-%s-twice-second' % name, a + a + one + q + end
+        yield 'datum-%s-and-a-word' % name, body + head(9, 1) + words([0]) + a + q + end
+        yield 'datum-%s-after-question' % name, body + body + q + one + one + end
+        yield 'datum-%s-after-end' % name, a + a + q + end + one
+        yield 'datum-%s-weights-behind' % name, a + head(5, 2) + floats([1, 1]) + a + q + end
+        for cut, part in (('before', body), ('at', a), ('before-second', a + body), ('at-second', a + a)):
+            yield 'datum-%s-stops-%s' % (name, cut), part
+            yield 'datum-%s-stops-%s-in-the-word' % (name, cut), part + one[:2]
+        # sheets of before M-104
+        yield 'datum-%s-none' % name, body + body + q + end
+        yield 'datum-%s-none-first' % name, body + a + q + end
+        yield 'datum-%s-none-second' % name, a + body + q + end
+    for name, make in EXAMPLES + CLOSED_EXAMPLES:
+        yield 'old-' + name, in_form(make(), 103)
+    yield 'old-second-stops', in_form(example(), 103)[:len(UNIT.data()) - 4]
+    yield 'old-question-stops', in_form(example(), 103)[:2 * len(UNIT.data()) - 8]
+
+
+def dated_drawn():
+    """All drawn sheets with data: (name, bytes)."""
+    for part in (data_pairs, data_faults, data_words):
         yield from part()
 
 
@@ -1968,6 +2056,43 @@ def kind_cleared(rng):
 TAGGED_KINDS = [(kind_in_line, 50), (kind_cleared, 50)]
 
 
+def random_data(rng):
+    """Two data: often equal, or alike in some of their bits."""
+    a = rng.pick([0, 1, 2, 9998, 9999, 10000, 10001, 65536, 65537, MAX_COUNT, 1 + rng.below(9999), 1 + rng.below(9999), rng.below(1 << 28)])
+    return (a, rng.pick([a, a, a, 1, 0, a + 1, a - 1, a ^ 1 << rng.below(28), a + 65536, a + 256, rng.below(1 << 28)]) & MAX_COUNT)
+
+
+def any_sheet(rng):
+    return rng.pick([kind_lines, kind_segments, kind_small_pieces, kind_rings, kind_loops, kind_in_line, kind_spoilt, kind_ring_spoilt, kind_measure])(rng)
+
+
+def kind_data(rng):
+    """Any sheet with other data than 1 and 1."""
+    return dated(any_sheet(rng), random_data(rng))
+
+
+def kind_datum_word(rng):
+    """Any sheet with one of its data words dropped, doubled, moved, changed, or as the last one."""
+    parts = [(item[0], item_bytes(item[0], item[1:], 0)) for item in spelled(items_of(any_sheet(rng))) if item[0] != 'zeros']
+    at = rng.pick([i for i, part in enumerate(parts) if part[0] == 'datum'] or [0])
+    word = parts.pop(at) if parts else ('', b'')
+    way = rng.below(6)
+    if way == 1:
+        parts[at:at] = [word, word]
+    elif way == 2:
+        parts.insert(max(0, at - 1 - rng.below(2)), word)
+    elif way == 3:
+        parts.insert(rng.below(len(parts) + 1), word)
+    elif way == 4:
+        parts.insert(at, ('', head(rng.below(16), rng.pick([0, 1, 2, rng.below(1 << 28)]))))
+    elif way == 5:
+        parts = parts[:at] + [word] * rng.below(2)
+    return b''.join(part[1] for part in parts)
+
+
+DATED_KINDS = [(kind_data, 60), (kind_datum_word, 40)]
+
+
 def random_sheet(rng, kinds):
     """(kind, bytes) of one random sheet."""
     at = rng.below(sum(n for _, n in kinds))
@@ -1980,16 +2105,18 @@ def random_sheet(rng, kinds):
 def random_sheets(seed, count, level=1):
     """`count` random sheets; sheet i depends on the seed, i and the level alone. From level 100 on
     those at 0, 3, 6, .. have closed lines, from 101 on those at 1, 4, 7, .. turns, from 103 on those at
-    2, 8, 14, .. lines that each test clears; the others stay."""
+    2, 8, 14, .. lines that each test clears, from 104 on those at 5, 17, 29, .. data; the others stay."""
     new = {}
     if level >= 100:
-        new.update({0: CLOSED_KINDS, 3: CLOSED_KINDS})
+        new.update({i: CLOSED_KINDS for i in (0, 3, 6, 9)})
     if level >= 101:
-        new.update({1: MARKED_KINDS, 4: MARKED_KINDS})
+        new.update({i: MARKED_KINDS for i in (1, 4, 7, 10)})
     if level >= 103:
-        new[2] = TAGGED_KINDS
+        new.update({i: TAGGED_KINDS for i in (2, 8)})
+    if level >= 104:
+        new[5] = DATED_KINDS
     for i in range(count):
-        yield random_sheet(Rng(seed * 1000003 + i), new.get(i % 6, KINDS))
+        yield random_sheet(Rng(seed * 1000003 + i), new.get(i % 12, KINDS))
 
 
 # ---- files ------------------------------------------------------------------------
@@ -2048,6 +2175,10 @@ TAGGED_SEED, TAGGED_TRIED, TAGGED_BYTES, TAGGED_TEXT = 103, 12000, 800, 1200
 TAGGED_GROUPS = [(one_test, 1), (two_tests, 1), (three_tags, 1), (never_halved, 1)]
 
 
+DATED_SEED, DATED_TRIED, DATED_BYTES, DATED_TEXT = 104, 12000, 600, 800
+DATED_GROUPS = [(data_pairs, 1), (data_faults, 1), (data_words, 1)]
+
+
 def thinned(program, groups):
     """(bytes, answer) of drawn sheets, of each group every so many."""
     for group, every in groups:
@@ -2097,6 +2228,20 @@ def tagged_replay_sheets(program):
             yield data, answer
 
 
+def dated_replay_sheets(program):
+    """(bytes, answer) of the replay list with data: the drawn sheets, then random ones, a few of each bucket."""
+    yield from thinned(program, DATED_GROUPS)
+    taken = {}
+    for i, (kind, data) in enumerate(random_sheets(DATED_SEED, DATED_TRIED, 104)):
+        if i % 12 != 5 or len(data) > DATED_BYTES:
+            continue
+        answer = answer_of(program, data)
+        at, most = bucket(kind, answer)
+        if taken.get(at, 0) < most and len(at_level(answer, 1)) <= DATED_TEXT:
+            taken[at] = taken.get(at, 0) + 1
+            yield data, answer
+
+
 def closed_replay_sheets(program):
     """(bytes, answer) of the replay list with closed lines: drawn sheets, thinned
     by group, then random ones, a few of each bucket."""
@@ -2138,18 +2283,20 @@ def replay_sheets(program):
 
 def write_replay(folder, listed):
     os.makedirs(folder, exist_ok=True)
-    count = 0
-    with open(os.path.join(folder, 'sheets.bin'), 'wb') as f, \
-            open(os.path.join(folder, 'answers.txt'), 'w', newline='\n') as g:
-        for data, answer in listed:
-            f.write(packed(data))
-            g.write(answer + '---\n')
-            count += 1
-    print('%d sheets' % count)
+    listed = list(listed)
+    with open(os.path.join(folder, 'sheets.txt'), 'w', newline='\n') as f:
+        f.write(file_text(data for data, _ in listed))
+    write_answers(folder, [answer for _, answer in listed])
 
 
-DRAWN = {1: drawn, 100: closed_drawn, 101: marked_drawn, 103: tagged_drawn}
-REPLAYS = {1: replay_sheets, 100: closed_replay_sheets, 101: marked_replay_sheets, 103: tagged_replay_sheets}
+def write_answers(folder, answers):
+    with open(os.path.join(folder, 'answers.txt'), 'w', newline='\n') as f:
+        f.writelines(answer + '---\n' for answer in answers)
+    print('%d sheets' % len(answers))
+
+
+DRAWN = {1: drawn, 100: closed_drawn, 101: marked_drawn, 103: tagged_drawn, 104: dated_drawn}
+REPLAYS = {1: replay_sheets, 100: closed_replay_sheets, 101: marked_replay_sheets, 103: tagged_replay_sheets, 104: dated_replay_sheets}
 
 
 def drawn_up_to(level):
@@ -2175,6 +2322,8 @@ def main(args):
             sys.stdout.buffer.write(packed(data))
     elif args[:1] == ['--replay'] and len(args) == 3:
         write_replay(args[1], REPLAYS[level](args[2]))
+    elif args[:1] == ['--answers'] and len(args) == 3:
+        write_answers(args[1], [answer_of(args[2], data) for data in file_sheets(os.path.join(args[1], 'sheets.txt'))])
     else:
         sys.exit(__doc__)
 

@@ -27,6 +27,7 @@ static const uint32_t outfall_mults[] = { 3, 1, 1, 3 };
 static const double outfall_coords[] = {
     214, 88, -9.5, 216.5, 60, -11, 219, 38, -12.5, 221, 19, -13.5, 222.5, 6.5, -14.25,
 };
+static const uint32_t datum = 1; /* both lines are held in one grid */
 static const double gap = 5.0;
 
 /* What the search needs: P is at most 9 x 3 pairs of pieces, S is 64. */
@@ -42,8 +43,8 @@ static uint32_t open_search(void)
 {
     static const double none[1]; /* weights: none, so each is 1 */
     return lovgurshem_open(0.0, 9.0, 0.0, 3.0, gap, SPLITS,
-        0, 3, SLICE(track_knots), SLICE(track_mults), SLICE(track_coords), none, 0,
-        0, 2, SLICE(outfall_knots), SLICE(outfall_mults), SLICE(outfall_coords), none, 0,
+        0, 3, SLICE(track_knots), SLICE(track_mults), SLICE(track_coords), none, 0, datum,
+        0, 2, SLICE(outfall_knots), SLICE(outfall_mults), SLICE(outfall_coords), none, 0, datum,
         SLICE(pieces1), SLICE(pieces2), SLICE(nets1), SLICE(nets2), SLICE(ranges), SLICE(depths), SLICE(raw), SLICE(state));
 }
 

@@ -13,9 +13,9 @@ mod sys {
         pub fn lovgurshem_open(
             lo1: f64, hi1: f64, lo2: f64, hi2: f64, gap: f64, splits: u32,
             closed1: u32, degree1: u32, knots1: *const f64, knots1_length: usize, mults1: *const u32, mults1_length: usize,
-            coords1: *const f64, coords1_length: usize, weights1: *const f64, weights1_length: usize,
+            coords1: *const f64, coords1_length: usize, weights1: *const f64, weights1_length: usize, datum1: u32,
             closed2: u32, degree2: u32, knots2: *const f64, knots2_length: usize, mults2: *const u32, mults2_length: usize,
-            coords2: *const f64, coords2_length: usize, weights2: *const f64, weights2_length: usize,
+            coords2: *const f64, coords2_length: usize, weights2: *const f64, weights2_length: usize, datum2: u32,
             pieces1: *mut f64, pieces1_length: usize, pieces2: *mut f64, pieces2_length: usize,
             nets1: *mut f64, nets1_length: usize, nets2: *mut f64, nets2_length: usize,
             ranges: *mut f64, ranges_length: usize, depths: *mut u8, depths_length: usize,
@@ -58,6 +58,7 @@ struct Line<'a> {
     mults: &'a [u32],
     coords: &'a [f64],
     weights: &'a [f64],
+    datum: u32,
 }
 
 /// A search: its state and its memory, which belong together.
@@ -92,9 +93,9 @@ impl Search {
             sys::lovgurshem_open(
                 range1.0, range1.1, range2.0, range2.1, gap, splits,
                 a.closed as u32, a.degree, a.knots.as_ptr(), a.knots.len(), a.mults.as_ptr(), a.mults.len(),
-                a.coords.as_ptr(), a.coords.len(), a.weights.as_ptr(), a.weights.len(),
+                a.coords.as_ptr(), a.coords.len(), a.weights.as_ptr(), a.weights.len(), a.datum,
                 b.closed as u32, b.degree, b.knots.as_ptr(), b.knots.len(), b.mults.as_ptr(), b.mults.len(),
-                b.coords.as_ptr(), b.coords.len(), b.weights.as_ptr(), b.weights.len(),
+                b.coords.as_ptr(), b.coords.len(), b.weights.as_ptr(), b.weights.len(), b.datum,
                 pieces1.as_mut_ptr(), pieces1.len(), pieces2.as_mut_ptr(), pieces2.len(),
                 s.nets1.as_mut_ptr(), s.nets1.len(), s.nets2.as_mut_ptr(), s.nets2.len(),
                 s.ranges.as_mut_ptr(), s.ranges.len(), s.depths.as_mut_ptr(), s.depths.len(),
@@ -186,6 +187,7 @@ fn main() {
             296.0, 16.0, -14.0, 333.5, 13.25, -13.5, 369.75, 6.0, -13.0, 403.0, 2.5, -12.75,
         ],
         weights: &[],
+        datum: 1,
     };
     let outfall = Line {
         closed: false,
@@ -194,6 +196,7 @@ fn main() {
         mults: &[3, 1, 1, 3],
         coords: &[214.0, 88.0, -9.5, 216.5, 60.0, -11.0, 219.0, 38.0, -12.5, 221.0, 19.0, -13.5, 222.5, 6.5, -14.25],
         weights: &[],
+        datum: 1,
     };
     if let Err(no) = search(&track, &outfall) {
         println!("refused {} {}", no % 256, no / 256);

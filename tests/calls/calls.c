@@ -539,6 +539,30 @@ static void spoil_line(Drawn *d)
     }
 }
 
+/* Two data, often one number (02, M-104): within the span and outside it, with
+ * the same lower bits, or any. */
+static uint64_t data_drawn[2]; /* one datum; 23 */
+
+static void draw_data(Drawn d[2], int spoil)
+{
+    static const uint32_t edge[] = { 0, 1, 2, 9998, 9999, 10000, 10001, 65536, 65537, 75535, 0x0FFFFFFF, 0x10000001, 0x80000001, UINT32_MAX };
+    uint32_t a = one_in(2) ? 1 + (uint32_t)below(9999) : one_in(2) ? 1 : 9999, b;
+    if (spoil && one_in(4)) a = one_in(4) ? (uint32_t)chance() : edge[below(sizeof edge / sizeof *edge)];
+    b = a;
+    if (spoil && one_in(6)) {
+        switch (below(5)) {
+        case 0: b = a ^ 1u << below(32); break;
+        case 1: b = a + (one_in(2) ? 1 : UINT32_MAX); break;
+        case 2: b = edge[below(sizeof edge / sizeof *edge)]; break;
+        case 3: b = one_in(2) ? 0 : (uint32_t)chance(); break;
+        default: b = a + (one_in(2) ? 0x10000 : 0x100); break;
+        }
+    }
+    d[0].given.datum = a;
+    d[1].given.datum = b;
+    data_drawn[!one_datum(a, b)]++;
+}
+
 /* 1 to 18 and from 22 on leave the words and every slice as they were; all are
    compared in full, whatever is answered. */
 static int do_open(State *s, int spoil)
@@ -576,6 +600,7 @@ static int do_open(State *s, int spoil)
     if (spoil && one_in(12)) gap = one_in(3) ? NAN : one_in(2) ? -0x1p-1074 : 0x1.0000000000001p24;
     if (one_in(30)) gap = one_in(2) ? 0x1p24 : -0.0;
     if (spoil && one_in(12)) splits = one_in(2) ? 257 : (uint32_t)chance();
+    draw_data(d, spoil);
     for (int i = 0; i <= SLICES; i++) n[i] = i == SLICES ? depth_cap : cap[i];
     if (one_in(8)) {
         int i = (int)below(SLICES + 1);
@@ -588,7 +613,7 @@ static int do_open(State *s, int spoil)
     lent[1] = lend(&model, n, n[SLICES], mark_cap);
     hand_words(NULL);
     Lent *a = &lent[0];
-#define LINE(g) (g).closed, (g).degree, (g).knots, (g).knot_count, (g).mults, (g).mult_count, (g).coords, (g).coord_count, (g).weights, (g).weight_count
+#define LINE(g) (g).closed, (g).degree, (g).knots, (g).knot_count, (g).mults, (g).mult_count, (g).coords, (g).coord_count, (g).weights, (g).weight_count, (g).datum
     uint32_t got = lovgurshem_open(range[0][0], range[0][1], range[1][0], range[1][1], gap, splits,
         LINE(d[0].given), LINE(d[1].given), PART(a->pieces[0]), PART(a->pieces[1]), PART(a->nets[0]), PART(a->nets[1]),
         PART(a->ranges), PART(a->depths), PART(a->raw), words[0], words_lent);
@@ -1024,6 +1049,7 @@ int main(int argc, char **argv)
     printf("halved first %lu, second %lu; given up at depth 64 %lu; stopped %lu; regions raw %lu, merged %lu\n",
            (unsigned long)halved[0], (unsigned long)halved[1], (unsigned long)deep, (unsigned long)stopped, (unsigned long)raw_regions, (unsigned long)merged_regions);
     printf("steps with every free slot of the nets filled %lu\n", (unsigned long)filled_steps);
+    printf("openings with lines of one datum %lu, with others %lu\n", (unsigned long)data_drawn[0], (unsigned long)data_drawn[1]);
     printf("openings with a whole turn %lu; reports with one %lu; with a group %lu, and of a forged state %lu\n",
            (unsigned long)whole_openings, (unsigned long)turned, (unsigned long)groups[0], (unsigned long)groups[1]);
     printf("differences %lu\n", (unsigned long)differences);

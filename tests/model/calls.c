@@ -1,9 +1,9 @@
 /*
- * The library's operations as document 01 has them, with 02's M-100, M-101 and
- * M-103, on lent memory of any length and on any state: the table's numbers 4
- * to 22 and the paragraph under it, Search, Merging, marks, tags. The parts of
- * a sheet's answer (admission, breaks, pieces, boxes, tests, halving, merging,
- * the neighbours' chains) are clearance.c's.
+ * The library's operations as document 01 has them, with 02's M-100, M-101,
+ * M-103 and M-104, on lent memory of any length and on any state: the table's
+ * numbers 4 to 23 and the paragraph under it, Search, Merging, marks, tags. The
+ * parts of a sheet's answer (admission, data, breaks, pieces, boxes, tests,
+ * halving, merging, the neighbours' chains) are clearance.c's.
  *
  * A state travels as words of 64 bits; what they are is the header's table
  * (include/lovgurshem.h, STATE).
@@ -51,6 +51,7 @@ typedef struct {
     size_t knot_count, mult_count, coord_count, weight_count;
     const double *knots, *coords, *weights;
     const uint32_t *mults;
+    uint32_t datum;
 } Given;
 
 /* ---- a state as words -------------------------------------------------- */
@@ -315,8 +316,9 @@ static int take_given(const Given *g, Line *l)
 
 /* ---- the calls: a state comes and goes as words ------------------------ */
 
-/* The opening: the number, with 256 times the line for 4 to 15, 18 and 22, or 0
- * and the first state's words. The words are a lent slice as the pieces are. */
+/* The opening: the number, with 256 times the line for 4 to 15, 18, 22 and 23,
+ * or 0 and the first state's words. The words are a lent slice as the pieces
+ * are. */
 static int call_open(const Given given[2], const double range[2][2], double gap,
                      uint32_t splits, const Lent *m, uint64_t *w, size_t n)
 {
@@ -333,6 +335,7 @@ static int call_open(const Given given[2], const double range[2][2], double gap,
         fill_flat(&sheet.line[i]);
         fill_list(&sheet.line[i]);
     }
+    if (!one_datum(given[0].datum, given[1].datum)) return 23 + 256 * 2;
     memcpy(sheet.range, range, sizeof sheet.range);
     sheet.gap = gap;
     sheet.splits_per_pair = splits;

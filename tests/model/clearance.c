@@ -1,18 +1,19 @@
 /*
- * The sheet program of document 01 with document 02's M-100, M-101 and M-103:
- * two B-splines, open or closed, a stretch of each and a gap; the answer is a
- * verdict with counts, of the settled nodes by the test that cleared them too,
- * and the regions that could not be cleared, each with its stretch mark, or a
- * refusal with its number.
+ * The sheet program of document 01 with document 02's M-100, M-101, M-103 and
+ * M-104: two B-splines, open or closed, of one datum, a stretch of each and a
+ * gap; the answer is a verdict with counts, of the settled nodes by the test
+ * that cleared them too, and the regions that could not be cleared, each with
+ * its stretch mark, or a refusal with its number.
  *
  *   clearance < SHEET            prints the answer
  *   clearance --pieces < SHEET   the answer, then the net of every piece
  *   clearance --many             sheets one after the other on standard input,
  *                                each a 32-bit little-endian length and that
  *                                many bytes; each answer ends with a line ---
- *   clearance --level L ...      the answer as printed at a level of document
- *                                02: below 103 without box=, plane= and line=,
- *                                below 101 without marks
+ *   clearance --level L ...      at a level of document 02: below 104 a sheet's
+ *                                lines have no datum, and the answer is below
+ *                                103 without box=, plane= and line=, below 101
+ *                                without marks
  *
  * Build: cc -O2 -std=c99 -ffp-contract=off -o clearance clearance.c -lm
  *
@@ -45,7 +46,8 @@ enum {
     MAX_PIECES = MAX_LIST,        /* the first knot is never strictly between */
     MAX_BREAKS = MAX_PIECES + 1,
     MAX_SPLITS = 256,
-    MAX_DEPTH = 64
+    MAX_DEPTH = 64,
+    MAX_DATUM = 9999 /* 02, M-104 */
 };
 #define MAX_KNOT 1048576.0           /* 2^20 */
 #define MAX_COORDINATE 16777216.0    /* 2^24 */
@@ -74,6 +76,7 @@ typedef struct {
     uint32_t mults[MAX_WORDS];
     double poles[MAX_WORDS / 2]; /* x, y, z of each pole */
     double weights[MAX_WORDS / 2];
+    uint32_t datum;
     /* once admitted: */
     double flat[MAX_POLES + MAX_WIDTH]; /* knots with repeats */
     double list[MAX_LIST];              /* knots of a closed line, two turns */
@@ -110,8 +113,11 @@ static int within(double lo, double x, double hi)
 
 /* ---- Sheet walk: numbers 1, 2 and 3 (01, table and Sheet program) ------ */
 
+/* The level of document 02 whose sheets are read and answers printed. */
+static int level = 104;
+
 enum { KIND_LINE = 1, KIND_KNOTS, KIND_MULTS, KIND_POLES, KIND_WEIGHTS,
-       KIND_QUESTION, KIND_END, KIND_CLOSED };
+       KIND_QUESTION, KIND_END, KIND_CLOSED, KIND_DATUM };
 
 typedef struct {
     const uint32_t *words;
@@ -167,6 +173,13 @@ static int take_degree(Walk *w, Line *l)
     return take_head(w, l->closed ? KIND_CLOSED : KIND_LINE, &l->degree);
 }
 
+/* 02, M-104: "kind 9 after its poles and weights, the count a datum number". */
+static int take_datum(Walk *w, Line *l)
+{
+    l->datum = 1;
+    return level >= 104 ? take_head(w, KIND_DATUM, &l->datum) : 0;
+}
+
 static int take_line(Walk *w, Line *l)
 {
     int no = take_degree(w, l);
@@ -177,6 +190,7 @@ static int take_line(Walk *w, Line *l)
     if (!no) no = take_head(w, KIND_POLES, &l->pole_count);
     if (!no) no = take_floats(w, 3 * (uint64_t)l->pole_count, l->poles);
     if (!no) no = take_weights(w, l);
+    if (!no) no = take_datum(w, l);
     return no;
 }
 
@@ -299,6 +313,17 @@ static int line_fault(const Line *l)
                     MAX_COORDINATE))
         return 14;
     return 0;
+}
+
+/* 02, M-104: 23 "when either number is outside that span or the two differ". */
+static int datum_in_span(uint32_t datum)
+{
+    return 1 <= datum && datum <= MAX_DATUM;
+}
+
+static int one_datum(uint32_t first, uint32_t second)
+{
+    return datum_in_span(first) && datum_in_span(second) && first == second;
 }
 
 /* The knots with repeats (flat_knots). */
@@ -1035,9 +1060,6 @@ static void print_float(double x)
            (unsigned long)(bits & 0xFFFFFFFF));
 }
 
-/* The level of document 02 whose answers are printed. */
-static int level = 103;
-
 /* 02, M-103: "printed as box=, plane= and line= after" settled. */
 static void print_tags(const uint64_t by[TAGS])
 {
@@ -1108,7 +1130,7 @@ static Refusal ask(const Sheet *sheet, Search *s)
     return refusal(0, 0);
 }
 
-/* Numbers 1 to 19 and 22 in the table's order; 0 leaves an open search. */
+/* Numbers 1 to 19, 22 and 23 in the table's order; 0 leaves an open search. */
 static Refusal open_sheet(const unsigned char *bytes, size_t length,
                           Sheet *sheet, Search *s)
 {
@@ -1120,6 +1142,8 @@ static Refusal open_sheet(const unsigned char *bytes, size_t length,
         fill_flat(&sheet->line[k]);
         fill_list(&sheet->line[k]);
     }
+    if (!one_datum(sheet->line[0].datum, sheet->line[1].datum))
+        return refusal(23, 2);
     r = ask(sheet, s);
     if (r.number) return r;
     return refusal(open_search(s, sheet), 0);

@@ -5,7 +5,7 @@
   edits.py --random SEED N
 
 Each edit below makes one mistake in clearance.c. The edited program is built
-and run on the sheets of each DIR/sheets.bin (or, with --random, on the drawn
+and run on the sheets of each DIR/sheets.txt (or, with --random, on the drawn
 sheets and N random ones of the seed, all levels among them); an edit is seen
 if an answer differs from the unedited program's. Exit 1 if an edit is not seen,
 or if one of those that no sheet can show is. --where prints the first sheet
@@ -18,6 +18,7 @@ import tempfile
 
 HERE = os.path.dirname(os.path.abspath(__file__))
 sys.path.insert(0, os.path.dirname(HERE))
+import sheet_text  # noqa: E402
 import sheets  # noqa: E402
 
 EDITS = [
@@ -36,6 +37,52 @@ EDITS = [
      '    if (w->at == w->count) return 2;\n    if (w->words[w->at] >> 28 != KIND_WEIGHTS)'),
     ('poles count wraps', 'take_floats(w, 3 * (uint64_t)l->pole_count, l->poles)',
      'take_floats(w, 24 * l->pole_count / 8, l->poles)'),
+    # datum (document 02, M-104)
+    ('datum may be absent', 'return level >= 104 ? take_head(w, KIND_DATUM, &l->datum) : 0;',
+     'return w->at < w->count && w->words[w->at] >> 28 == KIND_DATUM ? take_head(w, KIND_DATUM, &l->datum) : 0;'),
+    ('datum may be absent at the end of the sheet', 'return level >= 104 ? take_head(w, KIND_DATUM, &l->datum) : 0;',
+     'return w->at == w->count ? 2 : take_head(w, KIND_DATUM, &l->datum);'),
+    ('datum of the first line may be absent', '    if (!no) no = take_datum(w, l);\n',
+     '    l->datum = 1;\n    if (!no && (w->at == w->count || w->words[w->at] >> 28 != KIND_LINE)) no = take_datum(w, l);\n'),
+    ('datum of the second line may be absent', '    if (!no) no = take_datum(w, l);\n',
+     '    l->datum = 1;\n    if (!no && (w->at == w->count || w->words[w->at] >> 28 != KIND_QUESTION)) no = take_datum(w, l);\n'),
+    ('no datum gives 3', 'return level >= 104 ? take_head(w, KIND_DATUM, &l->datum) : 0;', 'return take_head(w, KIND_DATUM, &l->datum) ? 3 : 0;'),
+    ('datum before the weights', '    if (!no) no = take_weights(w, l);\n    if (!no) no = take_datum(w, l);\n',
+     '    if (!no) no = take_datum(w, l);\n    if (!no) no = take_weights(w, l);\n'),
+    ('weights behind the datum too', '    if (!no) no = take_datum(w, l);\n', '    if (!no) no = take_datum(w, l);\n    if (!no && !l->rational) no = take_weights(w, l);\n'),
+    ('datum twice', '    if (!no) no = take_datum(w, l);\n',
+     '    if (!no) no = take_datum(w, l);\n    if (!no && w->at < w->count && w->words[w->at] >> 28 == KIND_DATUM) no = take_datum(w, l);\n'),
+    ('datum of 24 bits', '    if (!no) no = take_datum(w, l);\n', '    if (!no) no = take_datum(w, l);\n    l->datum &= 0xFFFFFF;\n'),
+    ('datum 0 in the walk', 'return level >= 104 ? take_head(w, KIND_DATUM, &l->datum) : 0;',
+     'int no = take_head(w, KIND_DATUM, &l->datum);\n    return !no && l->datum == 0 ? 2 : no;'),
+    ('datum over 9,999 in the walk', 'return level >= 104 ? take_head(w, KIND_DATUM, &l->datum) : 0;',
+     'int no = take_head(w, KIND_DATUM, &l->datum);\n    return !no && l->datum > MAX_DATUM ? 2 : no;'),
+    ('data untested', '    if (!one_datum(sheet->line[0].datum, sheet->line[1].datum))\n        return refusal(23, 2);\n', ''),
+    ('data that differ', ' && first == second;', ';'),
+    ('data outside the span', 'return datum_in_span(first) && datum_in_span(second) && first == second;', 'return first == second;'),
+    ('datum 0', 'return 1 <= datum && datum <= MAX_DATUM;', 'return datum <= MAX_DATUM;'),
+    ('datum 0 as none given', ' && first == second;', ' && first == second || first == 0 || second == 0;'),
+    ('datum 1 refused', 'return 1 <= datum && datum <= MAX_DATUM;', 'return 1 < datum && datum <= MAX_DATUM;'),
+    ('datum 10,000', 'MAX_DATUM = 9999', 'MAX_DATUM = 10000'),
+    ('datum 9,999 refused', 'MAX_DATUM = 9999', 'MAX_DATUM = 9998'),
+    ('data as 16 bits', 'one_datum(sheet->line[0].datum, sheet->line[1].datum)', 'one_datum((uint16_t)sheet->line[0].datum, (uint16_t)sheet->line[1].datum)'),
+    ('data compared as 16 bits', 'return datum_in_span(first) && datum_in_span(second) && first == second;', 'return datum_in_span(second) && (uint16_t)first == (uint16_t)second;'),
+    ('data compared as 8 bits', ' && first == second;', ' && (uint8_t)first == (uint8_t)second;'),
+    ('data compared by order', ' && first == second;', ' && first <= second;'),
+    ('span or equal', '&& datum_in_span(second) && first == second;', '&& datum_in_span(second) || first == second;'),
+    ('23 with line 1', 'return refusal(23, 2);', 'return refusal(23, 1);'),
+    ('23 with 0', 'return refusal(23, 2);', 'return refusal(23, 0);'),
+    ('23 with the line outside the span', 'return refusal(23, 2);', 'return refusal(23, datum_in_span(sheet->line[0].datum) ? 2 : 1);'),
+    ('23 before the first line', '    Refusal r = refusal(walk_sheet(bytes, length, sheet), 0);\n    if (r.number) return r;\n',
+     '    Refusal r = refusal(walk_sheet(bytes, length, sheet), 0);\n    if (r.number) return r;\n    if (!one_datum(sheet->line[0].datum, sheet->line[1].datum)) return refusal(23, 2);\n'),
+    ('23 before the second line', 'int no = line_fault(&sheet->line[k]);',
+     'int no = line_fault(&sheet->line[k]);\n        if (k == 1 && !one_datum(sheet->line[0].datum, sheet->line[1].datum)) return refusal(23, 2);'),
+    ('span before the second line', 'int no = line_fault(&sheet->line[k]);',
+     'int no = line_fault(&sheet->line[k]);\n        if (k == 1 && !datum_in_span(sheet->line[0].datum)) return refusal(23, 2);'),
+    ('23 after 15', '    if (!one_datum(sheet->line[0].datum, sheet->line[1].datum))\n        return refusal(23, 2);\n    r = ask(sheet, s);\n',
+     '    r = ask(sheet, s);\n    if (r.number == 15) return r;\n    if (!one_datum(sheet->line[0].datum, sheet->line[1].datum))\n        return refusal(23, 2);\n'),
+    ('23 after 18', '    if (!one_datum(sheet->line[0].datum, sheet->line[1].datum))\n        return refusal(23, 2);\n    r = ask(sheet, s);\n    if (r.number) return r;\n',
+     '    r = ask(sheet, s);\n    if (r.number) return r;\n    if (!one_datum(sheet->line[0].datum, sheet->line[1].datum))\n        return refusal(23, 2);\n'),
     # admission
     ('degree 0', 'l->degree < 1 || ', ''),
     ('degree 26', 'MAX_DEGREE = 25,\n    MAX_WIDTH = MAX_DEGREE + 1', 'MAX_DEGREE = 26,\n    MAX_WIDTH = MAX_DEGREE + 1'),
@@ -185,7 +232,8 @@ EDITS = [
     ('kind 8 read as kind 1', "    l->closed = w->at < w->count && w->words[w->at] >> 28 == KIND_CLOSED;\n    return take_head(w, l->closed ? KIND_CLOSED : KIND_LINE, &l->degree);",
      "    int eight = w->at < w->count && w->words[w->at] >> 28 == KIND_CLOSED;\n    return take_head(w, eight ? KIND_CLOSED : KIND_LINE, &l->degree);"),
     ('kind 1 read as kind 8', 'l->closed = w->at < w->count && w->words[w->at] >> 28 == KIND_CLOSED;', 'l->closed = 1;'),
-    ('kind 9 for kind 8', 'KIND_QUESTION, KIND_END, KIND_CLOSED };', 'KIND_QUESTION, KIND_END, KIND_CLOSED = 9 };'),
+    ('kind 10 for kind 8', 'KIND_END, KIND_CLOSED, KIND_DATUM };', 'KIND_END, KIND_CLOSED = 10, KIND_DATUM = 9 };'),
+    ('kind 10 for kind 9', 'KIND_END, KIND_CLOSED, KIND_DATUM };', 'KIND_END, KIND_CLOSED, KIND_DATUM = 10 };'),
     ('any kind for a line', '    return take_head(w, l->closed ? KIND_CLOSED : KIND_LINE, &l->degree);', '    return take_head(w, w->at < w->count ? w->words[w->at] >> 28 : KIND_LINE, &l->degree);'),
     ('closed on the first line only', 'if (!no) no = take_line(&w, &s->line[1]);', 'if (!no) no = take_line(&w, &s->line[1]), s->line[1].closed = 0;'),
     ('22 before 7', '    if (!knots_rise(l)) return 7;\n    if (l->closed && !ends_alike(l)) return 22;\n', '    if (l->closed && !ends_alike(l)) return 22;\n    if (!knots_rise(l)) return 7;\n'),
@@ -341,6 +389,8 @@ ALIKE = [
     ('line as what remains', 's->by[v]++;', 's->by[BY_LINE] = s->settled - (s->by[BY_BOX] += v == BY_BOX) - (s->by[BY_PLANE] += v == BY_PLANE);'),
     # the boxes of a pushed pair aren't apart, and its nets stay until it is halved
     ('box only of halves', 's->by[v]++;', 's->by[v == BY_BOX && s->depths[top] == 0 ? BY_PLANE : v]++;'),
+    # equal data are within the span together
+    ('span of the first datum alone', 'return datum_in_span(first) && datum_in_span(second) && first == second;', 'return datum_in_span(first) && first == second;'),
     # place takes the span's start for any value outside the span, so for any outside the turn
     ('in_period without "first where"', 'return start_unless(first_knot(l), last_knot(l), u - period(l) * turns);', 'return u - period(l) * turns;'),
 ]
@@ -372,16 +422,13 @@ def shown(program, data, right):
 
 
 def stored(folders):
-    out = []
-    for folder in folders:
-        with open(os.path.join(folder, 'sheets.bin'), 'rb') as f:
-            out.append(f.read())
-    return b''.join(out)
+    listed = [d for folder in folders for d in sheet_text.file_sheets(os.path.join(folder, 'sheets.txt'))]
+    return b''.join(sheets.packed(d) for d in listed)
 
 
 def generated(seed, count):
-    listed = [d for _, d in sheets.drawn_up_to(103)]
-    listed += [d for _, d in sheets.random_sheets(seed, count, 103)]
+    listed = [d for _, d in sheets.drawn_up_to(104)]
+    listed += [d for _, d in sheets.random_sheets(seed, count, 104)]
     return b''.join(sheets.packed(d) for d in listed)
 
 

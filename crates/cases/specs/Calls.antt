@@ -16,7 +16,7 @@ use Rattle.nodes.specs.Nets.{geometry}
 use Rattle.report.specs.declared.Reported.the-variants.{Told, Running, NoRoom as ReportNoRoom}
 use Rattle.report.specs.Reports.{output}
 use Rattle.opening.specs.declared.Opened.{Opened}
-use Rattle.opening.specs.declared.Opened.the-variants.{Open, BadLine, BadQuestion, NoRoom as OpenNoRoom}
+use Rattle.opening.specs.declared.Opened.the-variants.{Open, BadLine, BadDatum, BadQuestion, NoRoom as OpenNoRoom}
 use Rattle.opening.specs.Opens.{openDef}
 use Rattle.coverage.specs.Calls.{Call, step, own, report, Answer, stepped, judged, reported, runAll}
 use Rattle.cases.specs.Cases.{two64, three64, lineA, straight, question, room}
@@ -83,6 +83,7 @@ askings =
 abbrev pub answered : List Asking → Opened → Memory → List Answer
 answered l (Open x) u = runAll geometry (map (λ (a : Asking). a .call) l) x u .answers
 answered l (BadLine line a) u = []
+answered l BadDatum u = []
 answered l (BadQuestion a) u = []
 answered l OpenNoRoom u = []
 

@@ -9,7 +9,7 @@ use lib.Ieee.{Float, binary64, ofBits, toBits}
 use Rattle.roots.specs.Root.{rootOf}
 use Rattle.floats.specs.Floats.{zero64, one64, half64}
 use Rattle.regions.specs.Reports.{wordNumber}
-use Rattle.lines.specs.Lines.{Line, Question}
+use Rattle.lines.specs.Lines.{Line, Question, withDatum}
 use Rattle.curves.specs.Curves.{piecesOf}
 use Rattle.facts.specs.Faults.{askedPlace}
 use Rattle.states.specs.States.{Memory, memory}
@@ -22,7 +22,7 @@ use Rattle.report.specs.declared.Reported.{Reported}
 use Rattle.report.specs.declared.Reported.the-variants.{Told, Running, NoRoom as ReportNoRoom}
 use Rattle.report.specs.Reports.{Output, output, reportDef}
 use Rattle.opening.specs.declared.Opened.{Opened}
-use Rattle.opening.specs.declared.Opened.the-variants.{Open, BadLine, BadQuestion, NoRoom as OpenNoRoom}
+use Rattle.opening.specs.declared.Opened.the-variants.{Open, BadLine, BadDatum, BadQuestion, NoRoom as OpenNoRoom}
 use Rattle.opening.specs.Opens.{openDef, openedNumber}
 
 -- 2, 3, 4, 4.5, 5, 6, 7, 9, 10 and 12
@@ -58,7 +58,7 @@ twelve64 = ofBits binary64 0x4028_0000_0000_0000
 
 -- the straight line from (x0, y0, 0) to (x1, y1, 0), degree 1, knots 0 and 1 doubled
 abbrev pub straight : Float → Float → Float → Float → Line
-straight x0 y0 x1 y1 = record { closed = false; degree = 1; knots = zero64 ∷ one64 ∷ []; mults = 2 ∷ 2 ∷ []; coords = x0 ∷ y0 ∷ zero64 ∷ x1 ∷ y1 ∷ zero64 ∷ []; weights = [] }
+straight x0 y0 x1 y1 = record { closed = false; degree = 1; knots = zero64 ∷ one64 ∷ []; mults = 2 ∷ 2 ∷ []; coords = x0 ∷ y0 ∷ zero64 ∷ x1 ∷ y1 ∷ zero64 ∷ []; weights = []; datum = 1 }
 
 -- both whole ranges of two such lines
 abbrev pub question : Line → Line → Float → ℕ → Question
@@ -99,6 +99,7 @@ reportedOf splits NoRoom u = refused 19
 abbrev pub ranFrom : ℕ → Opened → Memory → Answer
 ranFrom splits (Open x) u = let o = runDef geometry x u in reportedOf splits (o .answer) (o .memory)
 ranFrom splits (BadLine line a) u = refused (openedNumber (BadLine line a))
+ranFrom splits BadDatum u = refused (openedNumber BadDatum)
 ranFrom splits (BadQuestion a) u = refused (openedNumber (BadQuestion a))
 ranFrom splits OpenNoRoom u = refused 19
 
@@ -129,6 +130,7 @@ lineOfTwo = record {
   mults = 3 ∷ 1 ∷ 3 ∷ [];
   coords = zero64 ∷ zero64 ∷ zero64 ∷ zero64 ∷ two64 ∷ zero64 ∷ two64 ∷ two64 ∷ zero64 ∷ two64 ∷ zero64 ∷ zero64 ∷ [];
   weights = [];
+  datum = 1;
 }
 
 -- (x, y, 0) with weight 1
@@ -186,6 +188,23 @@ cleared =
     })
     ∷ []
 
+-- ---- one datum (document 02, M-104: "23 when either number is outside that span or the two differ, tested after the second line's 14")
+abbrev pub dated : ℕ → ℕ → Line → Float → Question
+dated a b l hi =
+    record { line1 = withDatum a lineA; lo1 = zero64; hi1 = hi; line2 = withDatum b l; lo2 = zero64; hi2 = one64; gap = zero64; splits = 0 }
+
+-- data 1 and 2; 0 twice; 10,000 twice; 9,999 twice with a line far away; 1 and 2 with a range that leaves the line
+abbrev pub datumCases : List Case
+datumCases =
+    searching (dated 1 2 lineA one64) (refused 23)
+    ∷ searching (dated 0 0 lineA one64) (refused 23)
+    ∷ searching (dated 10000 10000 lineA one64) (refused 23)
+    ∷ searching (dated 9999 9999 (straight ten64 zero64 twelve64 two64) one64)
+    (record { word = 0; counts = 0 ∷ 0 ∷ 0 ∷ 0 ∷ 0 ∷ 0 ∷ 0 ∷ 0 ∷ 0 ∷ 0 ∷ []; regions = []; marks = []; left = [] })
+    ∷ searching (dated 1 2 lineA two64) (refused 23)
+    ∷ searching (dated 1 1 lineA two64) (refused 15)
+    ∷ []
+
 -- ---- further cases
 abbrev pub floats : List ℕ → List Float
 floats l = map (ofBits binary64) l
@@ -203,6 +222,7 @@ weighted = pieces
           0xc020_0000_0000_0000 ∷ 0xc010_0000_0000_0000 ∷ 0xc018_0000_0000_0000 ∷ 0x4000_0000_0000_0000 ∷ 0x4018_0000_0000_0000 ∷ 0xc000_0000_0000_0000 ∷
           0x4008_0000_0000_0000 ∷ 0x4020_0000_0000_0000 ∷ 0xc018_0000_0000_0000 ∷ []);
       weights = floats (0x3ff0_0000_0000_0000 ∷ 0x3fe0_0000_0000_0000 ∷ 0x3ff0_0000_0000_0000 ∷ 0x4008_0000_0000_0000 ∷ 0x4000_0000_0000_0000 ∷ []);
+      datum = 1;
     })
     (ofBits binary64 0x3fd0_0000_0000_0000) (ofBits binary64 0x3ffc_0000_0000_0000)
     (floats (
@@ -228,6 +248,7 @@ cutTwice = pieces
           0xc000_0000_0000_0000 ∷ 0xc010_0000_0000_0000 ∷ 0x4008_0000_0000_0000 ∷ 0xbff0_0000_0000_0000 ∷ 0xbff0_0000_0000_0000 ∷ 0xc01c_0000_0000_0000 ∷
           0x4014_0000_0000_0000 ∷ 0x4000_0000_0000_0000 ∷ 0x4022_0000_0000_0000 ∷ []);
       weights = floats (0x4000_0000_0000_0000 ∷ 0x4008_0000_0000_0000 ∷ 0x4000_0000_0000_0000 ∷ 0x3ff0_0000_0000_0000 ∷ 0x4000_0000_0000_0000 ∷ []);
+      datum = 1;
     })
     (ofBits binary64 0x3fc7_0a3d_70a3_d70b) (ofBits binary64 0x3fe9_eb85_1eb8_51ec)
     (floats (
@@ -248,6 +269,7 @@ fromEitherSide = pieces
           0x4010_0000_0000_0000 ∷ 0x4010_0000_0000_0000 ∷ 0 ∷ 0xbff0_0000_0000_0000 ∷ 0xbff0_0000_0000_0000 ∷ 0 ∷
           0 ∷ 0x4000_0000_0000_0000 ∷ 0 ∷ 0xc010_0000_0000_0000 ∷ 0x4000_0000_0000_0000 ∷ 0 ∷ []);
       weights = [];
+      datum = 1;
     })
     (ofBits binary64 0x3fc9_9999_9999_999a) one64
     (floats (
@@ -267,6 +289,7 @@ freeEnds = record {
   mults = 1 ∷ 1 ∷ 1 ∷ 1 ∷ 1 ∷ 1 ∷ [];
   coords = zero64 ∷ zero64 ∷ zero64 ∷ one64 ∷ two64 ∷ zero64 ∷ three64 ∷ one64 ∷ zero64 ∷ [];
   weights = [];
+  datum = 1;
 }
 
 -- a range of it, against all of A
@@ -308,6 +331,7 @@ ring knots mults =
       mults = mults;
       coords = zero64 ∷ zero64 ∷ zero64 ∷ two64 ∷ zero64 ∷ zero64 ∷ two64 ∷ two64 ∷ zero64 ∷ [];
       weights = [];
+      datum = 1;
     }
 
 -- Knots 0, 1, 2, 3 once each: from 2 to 4 the pieces (1,1), (0,0), (1,0) and (1,0), (2,0), (2,1). Knots 0, 1, 2 with multiplicities 2, 1, 2, so that it goes through its first pole at the
@@ -343,6 +367,7 @@ lineOfThree = record {
       0 ∷ 0 ∷ 0xbff0_0000_0000_0000 ∷ 0x3ff0_0000_0000_0000 ∷ 0x4010_0000_0000_0000 ∷ 0x4008_0000_0000_0000 ∷
       0x4020_0000_0000_0000 ∷ 0x4010_0000_0000_0000 ∷ 0x4008_0000_0000_0000 ∷ 0x4024_0000_0000_0000 ∷ 0xc000_0000_0000_0000 ∷ 0xc008_0000_0000_0000 ∷ []);
   weights = [];
+  datum = 1;
 }
 
 -- Against (−1,1,0) to (10,1,0) the middle piece is set apart by its boxes. The pairs of the other two wait, each with its own piece's range, and are two regions in the order of their starts.
@@ -368,6 +393,7 @@ upAndDown = record {
   mults = 2 ∷ 1 ∷ 2 ∷ [];
   coords = floats (0 ∷ 0 ∷ 0 ∷ 0x4000_0000_0000_0000 ∷ 0x4000_0000_0000_0000 ∷ 0 ∷ 0x4010_0000_0000_0000 ∷ 0 ∷ 0 ∷ []);
   weights = [];
+  datum = 1;
 }
 
 -- Against (0,1,0) to (4,1,0) both pieces' pairs wait; their ranges touch, and they are one region with the box of both.
@@ -391,6 +417,7 @@ square = record {
   mults = 1 ∷ 1 ∷ 1 ∷ 1 ∷ 1 ∷ [];
   coords = floats (0 ∷ 0 ∷ 0 ∷ 0x4020_0000_0000_0000 ∷ 0 ∷ 0 ∷ 0x4020_0000_0000_0000 ∷ 0x4020_0000_0000_0000 ∷ 0 ∷ 0 ∷ 0x4020_0000_0000_0000 ∷ 0 ∷ []);
   weights = [];
+  datum = 1;
 }
 
 -- A whole turn of it against (−1,1,0) to (1,−1,0), across the corner where it starts: the first and the last side wait, two regions that meet over the seam, so one mark.

@@ -10,4 +10,5 @@ pub mod Breaks
 pub mod Stretches
 pub mod Units
 pub mod Turns
+pub mod Data
 pub mod Facts

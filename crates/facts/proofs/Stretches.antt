@@ -15,7 +15,7 @@ use Rattle.floats.specs.Sizes.{Number}
 use Rattle.floats.proofs.Order.{left-number, right-number, le-self, le-trans-float}
 use Rattle.floats.proofs.Bounds.{lt-not-le, none-below-nan}
 use Rattle.floats.proofs.Sums.{not-le-lt}
-use Rattle.lines.specs.Lines.{Line, lineOf}
+use Rattle.lines.specs.Lines.{Line, lineOf, withDatum}
 use Rattle.lines.specs.Admit.{two20, beyondOf, admitOf}
 use Rattle.lines.specs.Counts.{Counts}
 use Rattle.lines.specs.declared.Admission.the-variants.{Admitted}
@@ -141,9 +141,9 @@ of-breaks lo hi knots less n e {R} f = both-two each b (in-range lo hi nl nh lo 
     each t0 t1 r q = let m = middle-between t0 t1 (q .0) in f t0 t1 (r .0) (r .1) (m .0) (m .1) (q .1)
 
 -- ---- an open line
-module _ (degree : ℕ) (knots : List Float) (mults : List ℕ) (coords weights : List Float) (ok : admitOf (lineOf false degree knots mults coords weights) ≡ Admitted) where
+module _ (degree : ℕ) (knots : List Float) (mults : List ℕ) (coords weights : List Float) (datum : ℕ) (ok : admitOf (lineOf false degree knots mults coords weights) ≡ Admitted) where
   abbrev l : Line
-  l = lineOf false degree knots mults coords weights
+  l = withDatum datum (lineOf false degree knots mults coords weights)
 
   known : Counts l
   known = counts l ok

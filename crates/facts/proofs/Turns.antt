@@ -20,7 +20,7 @@ use Rattle.floats.proofs.Order.{of-fin, left-number, right-number, le-self, le-
 use Rattle.floats.proofs.Bounds.{lt-not-le}
 use Rattle.floats.proofs.Sums.{not-le-lt}
 use Rattle.floats.proofs.Middle.{within-number}
-use Rattle.lines.specs.Lines.{Line, lineOf}
+use Rattle.lines.specs.Lines.{Line, lineOf, withDatum}
 use Rattle.lines.specs.Admit.{beyondOf, admitOf}
 use Rattle.lines.specs.Counts.{Counts}
 use Rattle.lines.specs.declared.Admission.the-variants.{Admitted}
@@ -144,9 +144,9 @@ start-kept : (a b x : Float) → T (le a x) → T (lt x b) → startUnless a b x
 unfolding startUnless
 start-kept a b x h g = let e = as-true (le a x) h in let f = as-true (lt x b) g in rw (e, f) refl
 
-module _ (degree : ℕ) (knots : List Float) (mults : List ℕ) (coords weights : List Float) (ok : admitOf (lineOf true degree knots mults coords weights) ≡ Admitted) where
+module _ (degree : ℕ) (knots : List Float) (mults : List ℕ) (coords weights : List Float) (datum : ℕ) (ok : admitOf (lineOf true degree knots mults coords weights) ≡ Admitted) where
   abbrev l : Line
-  l = lineOf true degree knots mults coords weights
+  l = withDatum datum (lineOf true degree knots mults coords weights)
 
   known : Counts l
   known = counts l ok

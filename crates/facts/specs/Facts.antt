@@ -1,7 +1,7 @@
 -- The theorems of this crate. Definitions only.
 use mathlib.Core.Path.{_≡_}
 use mathlib.Core.Logic.{_↔_}
-use mathlib.Core.Bool.{true}
+use mathlib.Core.Bool.{true, false}
 use Prim.Native.Nat.{ℕ, _+_, _<_, _≤_}
 use lib.Dec.{T}
 use lib.ListN.{getD}
@@ -10,7 +10,8 @@ use Rattle.lists.specs.Members.{Any, All}
 use Rattle.lists.specs.Tests.{eachTwo}
 use Rattle.floats.specs.Floats.{middle}
 use Rattle.floats.specs.Stations.{InRange, Piece, piecesFrom}
-use Rattle.lines.specs.Lines.{Line, Question}
+use Rattle.lines.specs.Lines.{Line, Question, withDatum}
+use Rattle.lines.specs.Data.{oneDatum}
 use Rattle.lines.specs.declared.Admission.the-variants.{Admitted}
 use Rattle.lines.specs.Admit.{admissionNumber, admitOf}
 use Rattle.questions.specs.declared.Asked.the-variants.{Fine}
@@ -18,7 +19,7 @@ use Rattle.knots.specs.Knots.{lastOf, boundsOf, knotsOf, breaksOf}
 use Rattle.spans.specs.Spans.{inPeriod, placeOf}
 use Rattle.questions.specs.Questions.{rangeFits, parted, askOf}
 use Rattle.curves.specs.Curves.{piecesOf, cutsOf, netsIn}
-use Rattle.facts.specs.Faults.{LineFault, FirstLineFault, askedPlace, QuestionFault, FirstQuestionFault}
+use Rattle.facts.specs.Faults.{LineFault, FirstLineFault, Fault23, OneDatum, askedPlace, QuestionFault, FirstQuestionFault}
 use Rattle.facts.specs.Spans.{AllTwo, InSpan, spanNumber, netPoleCount, ownSpan, InOneSpan, Doubles, OfOneSpan}
 
 -- "When, and only then", numbers 4 to 14 and 22: a line gets a number exactly if that row is the first that it meets, and is admitted exactly if it meets none.
@@ -26,6 +27,14 @@ abbrev pub LineTable : Type 0
 LineTable = (l : Line) →
     ((n : ℕ) → 0 < n → (admissionNumber (admitOf l) ≡ n) ↔ FirstLineFault n l)
     × ((admitOf l ≡ Admitted) ↔ ((n : ℕ) → LineFault n l → ⊥))
+
+-- The same of two data, number 23: the test fails exactly if that row is met, and passes exactly if both are one number from 1 to 9,999.
+abbrev pub DataTable : Type 0
+DataTable = (a b : ℕ) → ((oneDatum a b ≡ false) ↔ Fault23 a b) × ((oneDatum a b ≡ true) ↔ OneDatum a b)
+
+-- Nothing else reads a datum: neither a line's admission nor its pieces.
+abbrev pub DatumUnread : Type 0
+DatumUnread = (l : Line) (n : ℕ) → (admitOf (withDatum n l) ≡ admitOf l) × ((lo hi : Float) → (piecesOf (withDatum n l) lo hi ≡ piecesOf l lo hi) × (cutsOf (withDatum n l) lo hi ≡ cutsOf l lo hi))
 
 -- The same of a question about two admitted lines, numbers 15 to 18, each with the line at fault.
 abbrev pub QuestionTable : Type 0

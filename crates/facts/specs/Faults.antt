@@ -1,4 +1,4 @@
--- Document 01's table in its own words, numbers 4 to 18, with document 02's 22 and what it says of closed lines: what a line or a question meets. Definitions only.
+-- Document 01's table in its own words, numbers 4 to 18, with document 02's 22 and what it says of closed lines, and its 23: what a line, two data or a question meet. Definitions only.
 use mathlib.Core.Path.{_≡_}
 use mathlib.Core.Logic.{_⊎_}
 use mathlib.Core.Bool.{Bool, true, false, cond}
@@ -119,6 +119,14 @@ rowRank n = cond (eqb n 22) 15 (2 * n)
 -- the first row that the line meets has number n
 abbrev pub FirstLineFault : ℕ → Line → Type 0
 FirstLineFault n l = LineFault n l × ((k : ℕ) → rowRank k < rowRank n → LineFault k l → ⊥)
+
+-- 23: either number is outside 1 to 9,999, or the two differ
+abbrev pub Fault23 : ℕ → ℕ → Type 0
+Fault23 a b = ((a < 1) ⊎ (9999 < a)) ⊎ (((b < 1) ⊎ (9999 < b)) ⊎ (a ≡ b → ⊥))
+
+-- where it isn't met
+abbrev pub OneDatum : ℕ → ℕ → Type 0
+OneDatum a b = (1 ≤ a) × (a ≤ 9999) × (a ≡ b)
 
 -- "A range starts in [first knot, last knot) and is, as rounded, no longer than the period": it doesn't, or it isn't
 abbrev pub OffTurn : Float → Float → Float → Float → Type 0

@@ -1,2 +1,3 @@
 pub mod Laws
 pub mod Admitted
+pub mod Data

@@ -1,3 +1,4 @@
 pub mod Admit
 pub mod Counts
+pub mod Data
 pub mod Lines

@@ -1,4 +1,4 @@
-// Admission of a line: the table's numbers 4 to 14, and 22 of a closed line after 7, in this order.
+// Admission of a line: the table's numbers 4 to 14, and 22 of a closed line after 7, in this order; and whether two lines are of one datum.
 ghost use mathlib.Core.Path.{_≡_};
 ghost use mathlib.Core.Bool.{_||_};
 ghost use Prim.Native.Nat.{_≤_, _<_};
@@ -9,6 +9,7 @@ ghost use Rattle.lists.specs.Tests.{every, eachTwo, total};
 ghost use Rattle.floats.specs.Floats.{within};
 ghost use Rattle.lines.specs.declared.Admission.the-variants.{Admitted};
 ghost use Rattle.lines.specs.Lines.{lineOf};
+ghost use Rattle.lines.specs.Data.{oneDatum};
 ghost use Rattle.lines.specs.Admit.{admissionNumber, endsDiffer, endsTooLarge, tooLarge, beyondOf, validateKnots, validateMults, validateDirection, validatePoles, admitOf};
 
 // Why a line is refused, or that it isn't. `BSplineConstructionError` names five of the cases.
@@ -293,4 +294,17 @@ pub fn admit(
         return direction;
     };
     validate_poles(closed, degree, mults, coords, weights)
+}
+
+// Whether two data are one number, and that from 1 to 9,999; where not, number 23.
+pub fn one_datum(a: u32, b: u32) -> bool
+    ensures { λ r. ⌜ r ≡ oneDatum a b ⌝ }
+{
+    if a < 1 {
+        return false;
+    }
+    if a > 9999 {
+        return false;
+    }
+    a == b
 }

@@ -11,6 +11,7 @@ use Rattle.machine.specs.Machine.{limit}
 use Rattle.verdicts.specs.declared.Verdict.{Verdict}
 use Rattle.verdicts.specs.declared.Verdict.the-variants.{Settled, Split, Unseparated}
 use Rattle.lines.specs.Lines.{Question}
+use Rattle.lines.specs.Data.{oneDatum}
 use Rattle.lines.specs.Admit.{admitOf}
 use Rattle.questions.specs.Questions.{askOf}
 use Rattle.terms.specs.declared.Terms.{Terms}
@@ -25,7 +26,7 @@ use Rattle.search.specs.declared.Own.the-variants.{Is, Ended as OwnEnded, NoRoo
 use Rattle.search.specs.Steps.{Stepping, stepping, part1, part2, divideAt, actOn, stepDef, ownDef}
 use Rattle.search.specs.Runs.{carriedOut, ownStepDef, turned, runFor, runDef}
 use Rattle.opening.specs.declared.Opened.{Opened}
-use Rattle.opening.specs.declared.Opened.the-variants.{Open, BadLine, BadQuestion, NoRoom as NoOpenRoom}
+use Rattle.opening.specs.declared.Opened.the-variants.{Open, BadLine, BadDatum, BadQuestion, NoRoom as NoOpenRoom}
 use Rattle.opening.specs.Asked.{start, stateOf as searchState}
 use Rattle.opening.specs.Opens.{searchFor, isAdmitted, isFine, piecesFit, Pushing, pushing, Opening, opening, openPieces, openDef}
 use Rattle.words.proofs.Laws.{within, reads-back, reads-moved}
@@ -97,12 +98,13 @@ floatsOf q = (q .gap, q .lo1, q .hi1, q .lo2, q .hi2)
 abbrev floatsIn : Opened → Floats → Floats
 floatsIn (Open x) g = (x .gap, x .terms .lo1, x .terms .hi1, x .terms .lo2, x .terms .hi2)
 floatsIn (BadLine line a) g = g
+floatsIn BadDatum g = g
 floatsIn (BadQuestion a) g = g
 floatsIn NoOpenRoom g = g
 
 open-floats : (q : Question) (p1 p2 : List Float) (u : Memory) → floatsIn (openDef q p1 p2 u .answer) (floatsOf q) ≡ floatsOf q
 open-floats q p1 p2 u =
-    go (isAdmitted (admitOf (q .line1))) (isAdmitted (admitOf (q .line2))) (isFine (askOf q)) (piecesFit q p1 p2)
+    go (isAdmitted (admitOf (q .line1))) (isAdmitted (admitOf (q .line2))) (oneDatum (q .line1 .datum) (q .line2 .datum)) (isFine (askOf q)) (piecesFit q p1 p2)
     (pushed (enough (needed (searchState (searchFor q) (start (searchFor q)))) (sizes u)) _)
   where
     pushed : (b : Bool) (m : Memory)
@@ -111,15 +113,16 @@ open-floats q p1 p2 u =
     pushed true m = refl
     pushed false m = refl
 
-    go : (a b c d : Bool) → floatsIn (openPieces q p1 p2 u .answer) (floatsOf q) ≡ floatsOf q
+    go : (a b n c d : Bool) → floatsIn (openPieces q p1 p2 u .answer) (floatsOf q) ≡ floatsOf q
         → floatsIn (cond {A = Opening} a (cond b
-        (cond c (cond d (openPieces q p1 p2 u) (opening NoOpenRoom p1 p2 u)) (opening (BadQuestion (askOf q)) p1 p2 u))
+        (cond n (cond c (cond d (openPieces q p1 p2 u) (opening NoOpenRoom p1 p2 u)) (opening (BadQuestion (askOf q)) p1 p2 u)) (opening BadDatum p1 p2 u))
         (opening (BadLine 2 (admitOf (q .line2))) p1 p2 u)) (opening (BadLine 1 (admitOf (q .line1))) p1 p2 u) .answer) (floatsOf q) ≡ floatsOf q
-    go true true true true o = o
-    go true true true false o = refl
-    go true true false d o = refl
-    go true false c d o = refl
-    go false b c d o = refl
+    go true true true true true o = o
+    go true true true true false o = refl
+    go true true true false d o = refl
+    go true true false c d o = refl
+    go true false n c d o = refl
+    go false b n c d o = refl
 
 -- ---- the next call reads the state that was answered
 next-read : (ws : List ℕ) (a : Stepped) (y : State) → isState ws ≡ true → fixedIn a (fixed (stateOf ws)) ≡ fixed (stateOf ws) → a ≡ Next y

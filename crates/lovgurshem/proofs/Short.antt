@@ -1,6 +1,7 @@
 -- An opening with too few words: every piece needs room, so an opening that is lent nothing is refused. Assumes nothing.
 use mathlib.Core.Path.{_≡_, refl, sym, ap, _∙_}
 use mathlib.Core.Bool.{Bool, true, false, _&&_, cond, false≢true}
+use mathlib.Core.Logic.{inr}
 use mathlib.Core.List.{List, [], _∷_}
 use Prim.Native.Nat.{ℕ, _+_, _*_, _≤_, _<_}
 use native.Mathlib.Nat.{mul-le-mul}
@@ -11,11 +12,12 @@ use lib.ListN.{length}
 use lib.Ieee.{Float}
 use Rattle.lines.specs.Admit.{admissionNumber, admitOf}
 use Rattle.lines.specs.Lines.{Question}
+use Rattle.lines.specs.Data.{oneDatum}
 use Rattle.knots.specs.Knots.{inside, between, knotsOf}
 use Rattle.curves.specs.Curves.{pieceCount}
 use Rattle.questions.specs.Questions.{askedNumber, askOf}
 use Rattle.states.specs.States.{Memory, memory}
-use Rattle.opening.specs.declared.Opened.the-variants.{BadLine, BadQuestion, NoRoom}
+use Rattle.opening.specs.declared.Opened.the-variants.{BadLine, BadDatum, BadQuestion, NoRoom}
 use Rattle.opening.specs.Opens.{FaultNumber, openedNumber, isAdmitted, isFine, piecesNeed, piecesFit, Opening, opening, openPieces, openDef}
 use Rattle.opening.proofs.Numbers.{not-none, bad-line, bad-question}
 use Rattle.lovgurshem.specs.Answers.{openAnswer}
@@ -40,39 +42,43 @@ none-fit q p =
     let c : 0 < piecesNeed (q .line1) (q .lo1) (q .hi1) = let m = mul-le-mul a b in omega (arith, m) in
     rw (lt-leb _ _ c) refl
 
--- ---- the opening by its four tests
+-- ---- the opening by its five tests
 module _ (q : Question) where
-  abbrev tested : Bool → Bool → Bool → Bool → List Float → List Float → Memory → Opening
-  tested a b c d p1 p2 u =
-      cond {A = Opening} a (cond b (cond c (cond d (openPieces q p1 p2 u) (opening NoRoom p1 p2 u)) (opening (BadQuestion (askOf q)) p1 p2 u))
+  abbrev tested : Bool → Bool → Bool → Bool → Bool → List Float → List Float → Memory → Opening
+  tested a b n c d p1 p2 u =
+      cond {A = Opening} a (cond b
+      (cond n (cond c (cond d (openPieces q p1 p2 u) (opening NoRoom p1 p2 u)) (opening (BadQuestion (askOf q)) p1 p2 u)) (opening BadDatum p1 p2 u))
       (opening (BadLine 2 (admitOf (q .line2))) p1 p2 u)) (opening (BadLine 1 (admitOf (q .line1))) p1 p2 u)
 
   lent-nothing : (p1 p2 : List Float) (u : Memory) → refusalOf q ≡ cond (passes q) 19 (openAnswer (openDef q p1 p2 u .answer))
   lent-nothing p1 p2 u =
-      go (isAdmitted (admitOf (q .line1))) (isAdmitted (admitOf (q .line2))) (isFine (askOf q)) (piecesFit q [] []) (piecesFit q p1 p2) (none-fit q [])
+      go (isAdmitted (admitOf (q .line1))) (isAdmitted (admitOf (q .line2))) (oneDatum (q .line1 .datum) (q .line2 .datum)) (isFine (askOf q)) (piecesFit q [] []) (piecesFit q p1 p2)
+      (none-fit q [])
     where
-      go : (a b c d e : Bool) → d ≡ false
-          → openAnswer (tested a b c d [] [] (memory [] [] [] [] []) .answer) ≡ cond (a && (b && c)) 19 (openAnswer (tested a b c e p1 p2 u .answer))
-      go true true true true e h = absurd (false≢true (sym h))
-      go true true true false e h = refl
-      go true true false d e h = refl
-      go true false c d e h = refl
-      go false b c d e h = refl
+      go : (a b n c d e : Bool) → d ≡ false
+          → openAnswer (tested a b n c d [] [] (memory [] [] [] [] []) .answer) ≡ cond (a && (b && (n && c))) 19 (openAnswer (tested a b n c e p1 p2 u .answer))
+      go true true true true true e h = absurd (false≢true (sym h))
+      go true true true true false e h = refl
+      go true true true false d e h = refl
+      go true true false c d e h = refl
+      go true false n c d e h = refl
+      go false b n c d e h = refl
 
   fault-number : (p1 p2 : List Float) (u : Memory) → passes q ≡ false
       → FaultNumber (openedNumber (openDef q p1 p2 u .answer))
   fault-number p1 p2 u =
-      go (isAdmitted (admitOf (q .line1))) (isAdmitted (admitOf (q .line2))) (isFine (askOf q)) (piecesFit q p1 p2)
+      go (isAdmitted (admitOf (q .line1))) (isAdmitted (admitOf (q .line2))) (oneDatum (q .line1 .datum) (q .line2 .datum)) (isFine (askOf q)) (piecesFit q p1 p2)
       (bad-line (admitOf (q .line1))) (bad-line (admitOf (q .line2))) (bad-question (askOf q))
     where
-      go : (a b c d : Bool) → (a ≡ false → FaultNumber (admissionNumber (admitOf (q .line1))))
+      go : (a b n c d : Bool) → (a ≡ false → FaultNumber (admissionNumber (admitOf (q .line1))))
           → (b ≡ false → FaultNumber (admissionNumber (admitOf (q .line2))))
-          → (c ≡ false → FaultNumber (askedNumber (askOf q))) → (a && (b && c)) ≡ false
-          → FaultNumber (openedNumber (tested a b c d p1 p2 u .answer))
-      go true true true d f g h e = absurd (false≢true (sym e))
-      go true true false d f g h e = h refl
-      go true false c d f g h e = g refl
-      go false b c d f g h e = f refl
+          → (c ≡ false → FaultNumber (askedNumber (askOf q))) → (a && (b && (n && c))) ≡ false
+          → FaultNumber (openedNumber (tested a b n c d p1 p2 u .answer))
+      go true true true true d f g h e = absurd (false≢true (sym e))
+      go true true true false d f g h e = h refl
+      go true true false c d f g h e = inr (lit≤ tt, lit≤ tt)
+      go true false n c d f g h e = g refl
+      go false b n c d f g h e = f refl
 
   -- lent nothing, no opening answers 0
   pub some-refusal : {r : ℕ} → r ≡ refusalOf q → r ≡ 0 → ⊥

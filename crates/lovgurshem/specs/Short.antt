@@ -6,6 +6,7 @@ use Prim.Native.Nat.{ℕ, _<_}
 use lib.ListN.{length}
 use lib.Ieee.{Float}
 use Rattle.lines.specs.Lines.{Question}
+use Rattle.lines.specs.Data.{oneDatum}
 use Rattle.lines.specs.Admit.{admitOf}
 use Rattle.questions.specs.Questions.{askOf}
 use Rattle.states.specs.States.{Memory}
@@ -13,11 +14,11 @@ use Rattle.opening.specs.Opens.{FaultNumber, isAdmitted, isFine, openedNumber, 
 use Rattle.lovgurshem.specs.Answers.{openAnswer}
 use Rattle.lovgurshem.specs.Calls.{openCall, callOpen}
 
--- both lines and the question pass 4 to 18 and 22
+-- both lines, their data and the question pass 4 to 18, 22 and 23
 abbrev pub passes : Question → Bool
-passes q = isAdmitted (admitOf (q .line1)) && (isAdmitted (admitOf (q .line2)) && isFine (askOf q))
+passes q = isAdmitted (admitOf (q .line1)) && (isAdmitted (admitOf (q .line2)) && (oneDatum (q .line1 .datum) (q .line2 .datum) && isFine (askOf q)))
 
--- 19 where they pass, and else the number, from 4 to 18 or 22, that enough words would get; all slices are as they were
+-- 19 where they pass, and else the number, from 4 to 18, 22 or 23, that enough words would get; all slices are as they were
 abbrev pub ShortState : Type 0
 ShortState =
     (q : Question) (p1 p2 : List Float) (u : Memory) (ws : List ℕ) → length ws < 23

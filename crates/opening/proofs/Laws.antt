@@ -24,6 +24,7 @@ use Rattle.questions.specs.Questions.{rangeFits, askWithin, askOf}
 use Rattle.knots.specs.Knots.{boundsOf, breaksOf, boundsIn, unrolledOf}
 use Rattle.curves.specs.Curves.{pieceCount, countIn}
 use Rattle.lines.specs.Lines.{Question, Line}
+use Rattle.lines.specs.Data.{oneDatum}
 use Rattle.pairs.specs.Nodes.{HasPieces}
 use Rattle.pairs.specs.Pairs.{Pieces, pieces, pairsFrom, nets1Of, nets2Of, rangesOf, depthsOf}
 use Rattle.states.specs.declared.State.{State}
@@ -31,7 +32,7 @@ use Rattle.terms.specs.declared.Terms.{Terms}
 use Rattle.states.specs.States.{Memory, memory, Sizes, sizes, needed, enough, firstState}
 use Rattle.states.proofs.Tests.{room-all}
 use Rattle.opening.specs.declared.Opened.{Opened}
-use Rattle.opening.specs.declared.Opened.the-variants.{Open, BadLine, BadQuestion, NoRoom}
+use Rattle.opening.specs.declared.Opened.the-variants.{Open, BadLine, BadDatum, BadQuestion, NoRoom}
 use Rattle.opening.specs.Asked.{pushedPairs, start, stateOf}
 use Rattle.opening.specs.Opens.{termsOf, searchFor, isAdmitted, isFine, piecesFit, piecesIn, pushing, pushDef, pushPairs, Opening, opening, openPieces, openDef}
 use Rattle.opening.proofs.Pushed.{one, other, numbered, pairs-are, memory-is}
@@ -115,6 +116,9 @@ module _ (q : Question) (p1 p2 : List Float) (u : Memory) where
       λ i. opening (f i .answer) (ea i) (eb i) (f i .memory)
 
   -- ---- the tests, one a return
+  abbrev pub OneDatum : Bool → Type 0
+  OneDatum b = (oneDatum (q .line1 .datum) (q .line2 .datum) ≡ b)
+
   pub bad-first : isAdmitted (admitOf (q .line1)) ≡ false → opening (BadLine 1 (admitOf (q .line1))) p1 p2 u ≡ openDef q p1 p2 u
   bad-first e = rw e refl
 
@@ -122,17 +126,20 @@ module _ (q : Question) (p1 p2 : List Float) (u : Memory) where
       → opening (BadLine 2 (admitOf (q .line2))) p1 p2 u ≡ openDef q p1 p2 u
   bad-second e f = rw (e, f) refl
 
-  pub bad-question : isAdmitted (admitOf (q .line1)) ≡ true → isAdmitted (admitOf (q .line2)) ≡ true → isFine (askOf q) ≡ false
+  pub bad-datum : isAdmitted (admitOf (q .line1)) ≡ true → isAdmitted (admitOf (q .line2)) ≡ true → OneDatum false → opening BadDatum p1 p2 u ≡ openDef q p1 p2 u
+  bad-datum e f n = rw (e, f, n) refl
+
+  pub bad-question : isAdmitted (admitOf (q .line1)) ≡ true → isAdmitted (admitOf (q .line2)) ≡ true → OneDatum true → isFine (askOf q) ≡ false
       → opening (BadQuestion (askOf q)) p1 p2 u ≡ openDef q p1 p2 u
-  bad-question e f g = rw (e, f, g) refl
+  bad-question e f n g = rw (e, f, n, g) refl
 
-  pub no-room : isAdmitted (admitOf (q .line1)) ≡ true → isAdmitted (admitOf (q .line2)) ≡ true → isFine (askOf q) ≡ true
+  pub no-room : isAdmitted (admitOf (q .line1)) ≡ true → isAdmitted (admitOf (q .line2)) ≡ true → OneDatum true → isFine (askOf q) ≡ true
       → piecesFit q p1 p2 ≡ false → opening NoRoom p1 p2 u ≡ openDef q p1 p2 u
-  no-room e f g h = rw (e, f, g, h) refl
+  no-room e f n g h = rw (e, f, n, g, h) refl
 
-  pub opened-is : isAdmitted (admitOf (q .line1)) ≡ true → isAdmitted (admitOf (q .line2)) ≡ true → isFine (askOf q) ≡ true → piecesFit q p1 p2 ≡ true
+  pub opened-is : isAdmitted (admitOf (q .line1)) ≡ true → isAdmitted (admitOf (q .line2)) ≡ true → OneDatum true → isFine (askOf q) ≡ true → piecesFit q p1 p2 ≡ true
       → (r : Opening) → r ≡ openPieces q p1 p2 u → r ≡ openDef q p1 p2 u
-  opened-is e f g h r k = k ∙ rw (e, f, g, h) refl
+  opened-is e f n g h r k = k ∙ rw (e, f, n, g, h) refl
 
 -- ---- a line's breaks in a local array, of which m are used
 pub used-length : (m : ℕ) (out : List Float) → m ≤ length out → m ≡ length (take m out)

@@ -22,7 +22,7 @@ use Rattle.report.specs.declared.Reported.the-variants.{Told, Running, NoRoom a
 use Rattle.report.specs.Reports.{Output, output, reportedNumber, reportDef}
 use Rattle.opening.specs.declared.Question.{Question as Asking}
 use Rattle.opening.specs.declared.Opened.{Opened}
-use Rattle.opening.specs.declared.Opened.the-variants.{Open, BadLine, BadQuestion, NoRoom as NoOpenRoom}
+use Rattle.opening.specs.declared.Opened.the-variants.{Open, BadLine, BadDatum, BadQuestion, NoRoom as NoOpenRoom}
 use Rattle.opening.specs.Opens.{openedNumber, openedLine, openDef}
 use Rattle.printing.specs.Printed.{countsLength, regionLength, countLine, regionLines, refusalLine}
 
@@ -68,6 +68,7 @@ searchText x u out = let o = runDef geometry x u in steppedText (o .answer) (o .
 abbrev pub openedText : Opened → Memory → Output → List ℕ
 openedText (Open x) u out = searchText x u out
 openedText (BadLine line a) u out = refusalLine (openedNumber (BadLine line a)) (openedLine (BadLine line a))
+openedText BadDatum u out = refusalLine (openedNumber BadDatum) (openedLine BadDatum)
 openedText (BadQuestion a) u out = refusalLine (openedNumber (BadQuestion a)) (openedLine (BadQuestion a))
 openedText NoOpenRoom u out = refusalLine (openedNumber NoOpenRoom) (openedLine NoOpenRoom)
 
@@ -76,9 +77,9 @@ unfoldable pub linesText : Question → List ℕ
 linesText q = let o = openDef q (zeros 8112) (zeros 8112) lent in openedText (o .answer) (o .memory) lentOutput
 
 -- ---- the sheet
--- "6 question (N is S; then lo, hi, lo, hi, gap as floats)", the floats at place `at` (`question_at`)
-unfoldable pub askingAt : List ℕ → ℕ → ℕ → Asking
-askingAt s at n = record { lo1 = floatAt s at; hi1 = floatAt s (at + 8); lo2 = floatAt s (at + 16); hi2 = floatAt s (at + 24); gap = floatAt s (at + 32); splits = n }
+-- "6 question (N is S; then lo, hi, lo, hi, gap as floats)", the floats at place `at`, of lines with these data (`question_at`)
+unfoldable pub askingAt : List ℕ → ℕ → ℕ → ℕ → ℕ → Asking
+askingAt s at n datum1 datum2 = record { datum1 = datum1; datum2 = datum2; lo1 = floatAt s at; hi1 = floatAt s (at + 8); lo2 = floatAt s (at + 16); hi2 = floatAt s (at + 24); gap = floatAt s (at + 32); splits = n }
 
 -- "The sheet is walked whole before 4"
 abbrev pub walkedText : Walked → List ℕ

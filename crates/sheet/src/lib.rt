@@ -179,6 +179,7 @@ fn answer_lines(
             out,
         ),
         Opened::BadLine(line, a) => printing::put_refusal(out, lines::admission_number(a), line),
+        Opened::BadDatum => printing::put_refusal(out, 23, 2),
         Opened::BadQuestion(a) => printing::put_refusal(
             out,
             questions::asked_number(a),
@@ -203,11 +204,13 @@ fn word_room() -> [u32; 4096]
     [0u32; 4096]
 }
 
-fn question_at(s: &[u8], at: usize, splits: u32) -> Question
+fn question_at(s: &[u8], at: usize, splits: u32, datum1: u32, datum2: u32) -> Question
     requires { ⌜ at + 40 ≤ length (now s) ⌝ }
-    ensures { λ r. ⌜ r ≡ askingAt (now (s .entry)) at splits ⌝ }
+    ensures { λ r. ⌜ r ≡ askingAt (now (s .entry)) at splits datum1 datum2 ⌝ }
 {
     Question {
+        datum1,
+        datum2,
         lo1: walks::float_at(s, at),
         hi1: walks::float_at(s, at + 8),
         lo2: walks::float_at(s, at + 16),
@@ -303,7 +306,8 @@ fn answer_sheet(s: &[u8], out: &mut [u8]) -> usize
     }
     let first = w.first;
     let second = w.second;
-    answer_first(s, question_at(s, w.asked, w.splits), first, second, out)
+    let q = question_at(s, w.asked, w.splits, first.datum, second.datum);
+    answer_first(s, q, first, second, out)
 }
 
 // The answer to any bytes, from the front of `out`; answers how many bytes it has. A buffer that the longest answer doesn't fit stays as it is, and the answer is 0.

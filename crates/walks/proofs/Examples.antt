@@ -7,4 +7,4 @@ use lib.Ieee.{ofBits}
 
 pub sheets-walked : SheetsWalked
 unfolding walkOf lineAfter lineKind weightsOf wordStands partOf sizeOf badCount badLength floatsFrom wordsFrom floatAt wordAt ofBits
-sheets-walked = (refl, (refl, (refl, (refl, (refl, (refl, (refl, (refl, (refl, (refl, (refl, (refl, tt))))))))))))
+sheets-walked = (refl, (refl, (refl, (refl, (refl, (refl, (refl, (refl, (refl, (refl, (refl, (refl, (refl, (refl, (refl, (refl, (refl, (refl, (refl, (refl, tt))))))))))))))))))))

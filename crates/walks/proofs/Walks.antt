@@ -98,19 +98,19 @@ pub taken-over : (s : List ℕ) (n : ℕ) (walk there : (ℕ → ℕ → ℕ →
 unfolding unless
 taken-over s n walk there size p z f h = record { says = λ go. on (walk go) z ∙ f go ∙ h .says go; before = h .before; few = h .few; fits = λ e. (z, h .fits e .1) }
 
--- ---- five parts are a line
-pub line-fits : {s : List ℕ} {n at kind : ℕ} {closed : Bool} {D K M P W : Part} → closed ≡ wordStands s 8 at → kind ≡ lineKind closed
+-- ---- five parts and the datum are a line
+pub line-fits : {s : List ℕ} {n at kind : ℕ} {closed : Bool} {D K M P W N : Part} → closed ≡ wordStands s 8 at → kind ≡ lineKind closed
     → PartFits s n (partOf s kind at) (sizeOf kind) D → PartFits s (D .no) (partOf s 2 (D .next)) (sizeOf 2) K
     → PartFits s (K .no) (partOf s 3 (K .next)) (sizeOf 3) M → PartFits s (M .no) (partOf s 4 (M .next)) (sizeOf 4) P
-    → PartFits s (P .no) (weightsOf s (P .next)) (sizeOf 5) W
-    → LineFits s n at (record { no = W .no; closed = closed; degree = D .count; knots = K; mults = M; poles = P; weights = W; next = W .next })
+    → PartFits s (P .no) (weightsOf s (P .next)) (sizeOf 5) W → PartFits s (W .no) (partOf s 9 (W .next)) (sizeOf 9) N
+    → LineFits s n at (record { no = N .no; closed = closed; degree = D .count; knots = K; mults = M; poles = P; weights = W; datum = N .count; next = N .next })
 unfolding lineAfter lineIn sizeOf
-line-fits {s} {n} {at} {kind} {closed} {D} {K} {M} {P} {W} is opens d k m p w =
-    subst (λ c. LineFits s n at (record { no = W .no; closed = c; degree = D .count; knots = K; mults = M; poles = P; weights = W; next = W .next })) (sym is) (record {
-      says = λ go. first .says _ ∙ k .says _ ∙ m .says _ ∙ p .says _ ∙ w .says _;
-      before = w .before;
+line-fits {s} {n} {at} {kind} {closed} {D} {K} {M} {P} {W} {N} is opens d k m p w t =
+    subst (λ c. LineFits s n at (record { no = N .no; closed = c; degree = D .count; knots = K; mults = M; poles = P; weights = W; datum = N .count; next = N .next })) (sym is) (record {
+      says = λ go. first .says _ ∙ k .says _ ∙ m .says _ ∙ p .says _ ∙ w .says _ ∙ t .says _;
+      before = t .before;
       fits = λ e.
-          let fw = w .fits e in
+          let fw = w .fits (t .fits e .0) in
           let fp = p .fits (fw .0) in
           let fm = m .fits (fp .0) in
           let fk = k .fits (fm .0) in

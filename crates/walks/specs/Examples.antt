@@ -5,7 +5,7 @@ use mathlib.Core.List.{List, [], _∷_, _++_}
 use Prim.Native.Nat.{ℕ, _+_, _*_, _/_, _%_}
 use lib.Ieee.{Float, binary64, ofBits}
 use Rattle.lists.specs.Members.{All}
-use Rattle.lines.specs.Lines.{Line}
+use Rattle.lines.specs.Lines.{Line, lineOf, withDatum}
 use Rattle.walks.specs.Sheets.{Walked, walked, refusedAs, walkOf}
 
 -- words as bytes; a word of kind k and count n; the floats 0 and 1 as words
@@ -22,9 +22,15 @@ nought = 0 ∷ 0 ∷ []
 abbrev pub one : List ℕ
 one = 0 ∷ 0x3ff00000 ∷ []
 
--- the line (0,0,0) to (1,0,0), degree 1, knots 0 and 1 doubled, opened by a word of kind k
+-- the line (0,0,0) to (1,0,0), degree 1, knots 0 and 1 doubled, opened by a word of kind k: up to its poles, with a datum, with datum 1
+abbrev pub undated : ℕ → List ℕ
+undated k = (head k 1 ∷ head 2 2 ∷ []) ++ nought ++ one ++ (head 3 2 ∷ 2 ∷ 2 ∷ head 4 2 ∷ []) ++ nought ++ nought ++ nought ++ one ++ nought ++ nought
+
+abbrev pub dated : ℕ → List ℕ
+dated n = undated 1 ++ (head 9 n ∷ [])
+
 abbrev pub opened : ℕ → List ℕ
-opened k = (head k 1 ∷ head 2 2 ∷ []) ++ nought ++ one ++ (head 3 2 ∷ 2 ∷ 2 ∷ head 4 2 ∷ []) ++ nought ++ nought ++ nought ++ one ++ nought ++ nought
+opened k = undated k ++ (head 9 1 ∷ [])
 
 abbrev pub straight : List ℕ
 straight = opened 1
@@ -40,7 +46,14 @@ abbrev pub oneF : Float
 oneF = ofBits binary64 0x3ff0000000000000
 
 abbrev pub line : Bool → Line
-line closed = record { closed = closed; degree = 1; knots = zeroF ∷ oneF ∷ []; mults = 2 ∷ 2 ∷ []; coords = zeroF ∷ zeroF ∷ zeroF ∷ oneF ∷ zeroF ∷ zeroF ∷ []; weights = [] }
+line closed = lineOf closed 1 (zeroF ∷ oneF ∷ []) (2 ∷ 2 ∷ []) (zeroF ∷ zeroF ∷ zeroF ∷ oneF ∷ zeroF ∷ zeroF ∷ []) []
+
+-- the same with two weights of 1
+abbrev pub weighed : List ℕ
+weighed = (head 5 2 ∷ []) ++ one ++ one
+
+abbrev pub heavy : Line
+heavy = lineOf false 1 (zeroF ∷ oneF ∷ []) (2 ∷ 2 ∷ []) (zeroF ∷ zeroF ∷ zeroF ∷ oneF ∷ zeroF ∷ zeroF ∷ []) (oneF ∷ oneF ∷ [])
 
 abbrev pub about : Line → Line → Walked
 about a b = walked (record { line1 = a; lo1 = zeroF; hi1 = oneF; line2 = b; lo2 = zeroF; hi2 = oneF; gap = zeroF; splits = 0 })
@@ -72,6 +85,16 @@ sheets =
     ∷ gives (head 1 1 ∷ head 2 0 ∷ head 3 0 ∷ head 4 0 ∷ head 5 0 ∷ []) (refusedAs 2)
     -- the second line is missing: 3
     ∷ gives straight (refusedAs 3)
+    -- a datum of any count is read, behind the weights where there are any
+    ∷ gives (dated 9999 ++ dated 2 ++ asked) (about (withDatum 9999 (line false)) (withDatum 2 (line false)))
+    ∷ gives (dated 0 ++ dated 0xfffffff ++ asked) (about (withDatum 0 (line false)) (withDatum 0xfffffff (line false)))
+    ∷ gives (undated 1 ++ weighed ++ (head 9 1 ∷ []) ++ straight ++ asked) (about heavy (line false))
+    -- another word in its place: 2, on either line, a weights word behind it too; no word: 3
+    ∷ gives (undated 1 ++ undated 1 ++ asked) (refusedAs 2)
+    ∷ gives (straight ++ undated 1 ++ asked) (refusedAs 2)
+    ∷ gives (straight ++ weighed ++ straight ++ asked) (refusedAs 2)
+    ∷ gives (undated 1) (refusedAs 3)
+    ∷ gives (straight ++ undated 8) (refusedAs 3)
     -- an end word of count 1 with a word behind it: 2; of count 0: 3
     ∷ gives (straight ++ straight ++ (head 6 0 ∷ []) ++ nought ++ one ++ nought ++ one ++ nought ++ (head 7 1 ∷ 0 ∷ [])) (refusedAs 2)
     ∷ gives (straight ++ straight ++ (head 6 0 ∷ []) ++ nought ++ one ++ nought ++ one ++ nought ++ (head 7 0 ∷ 0 ∷ [])) (refusedAs 3)

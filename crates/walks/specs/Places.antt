@@ -26,6 +26,7 @@ lineIn s l =
       mults = wordsFrom s (l .mults .at) (l .mults .count);
       coords = floatsFrom s (l .poles .at) (3 * l .poles .count);
       weights = floatsFrom s (l .weights .at) (l .weights .count);
+      datum = l .datum;
     }
 
 unfoldable pub questionIn : List ℕ → Sheet → given.Question

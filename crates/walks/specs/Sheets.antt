@@ -48,6 +48,7 @@ lineKind closed = cond closed 8 1
 
 -- "In order: 1 line (N the degree); 2 knots; 3 multiplicities; 4 poles; 5 weights", from place `at` on (`line_after`); `go` is what follows, given the line and the place behind it.
 -- "A sheet may give kind 8 in the place of kind 1, its count the degree": a line is closed where a word of kind 8 stands; else 1 is due.
+-- "Each line shall now carry kind 9 after its poles and weights, the count a datum number": any count; nothing follows it.
 unfoldable pub lineAfter : List ℕ → ℕ → (Line → ℕ → Walked) → Walked
 lineAfter s at go =
     partOf s (lineKind (wordStands s 8 at)) at (λ degree here a.
@@ -55,7 +56,8 @@ lineAfter s at go =
     partOf s 3 b (λ m mults c.
     partOf s 4 c (λ p poles d.
     weightsOf s d (λ w weights e.
-    go (record { closed = wordStands s 8 at; degree = degree; knots = floatsFrom s knots k; mults = wordsFrom s mults m; coords = floatsFrom s poles (3 * p); weights = floatsFrom s weights w }) e)))))
+    partOf s 9 e (λ datum none f.
+    go (record { closed = wordStands s 8 at; degree = degree; knots = floatsFrom s knots k; mults = wordsFrom s mults m; coords = floatsFrom s poles (3 * p); weights = floatsFrom s weights w; datum = datum }) f))))))
 
 -- The length, the first line, "the second line likewise; 6 question (N is S; then lo, hi, lo, hi, gap as floats); 7 end"; 3 where "words follow the end" (`walk`)
 unfoldable pub walkOf : List ℕ → Walked

@@ -17,7 +17,7 @@ pub struct Part {
     pub next: usize,
 }
 
-// The parts of a line.
+// The parts of a line, and its datum.
 pub struct Line {
     pub no: u8,
     pub closed: bool,
@@ -26,6 +26,7 @@ pub struct Line {
     pub mults: Part,
     pub poles: Part,
     pub weights: Part,
+    pub datum: u32,
     pub next: usize,
 }
 
@@ -228,15 +229,17 @@ fn line_after(s: &[u8], no: u8, at: usize) -> Line
     let mults = part_after(s, knots.no, knots.next, 3);
     let poles = part_after(s, mults.no, mults.next, 4);
     let weights = weights_after(s, poles.no, poles.next);
+    let datum = part_after(s, weights.no, weights.next, 9);
     Line {
-        no: weights.no,
+        no: datum.no,
         closed,
         degree: degree.count as u32,
         knots,
         mults,
         poles,
         weights,
-        next: weights.next,
+        datum: datum.count as u32,
+        next: datum.next,
     }
 }
 

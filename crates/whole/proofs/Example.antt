@@ -14,6 +14,7 @@ use Rattle.cuts.specs.Cuts.{lerpOf, lowerPart, restOf, restricted, upperPart}
 use Rattle.floats.specs.Floats.{greatest, least, middle, within}
 use Rattle.floats.specs.Vectors.{dotOf, normOf}
 use Rattle.knots.specs.Knots.{between, boundsIn, openBounds, flatKnots, inside, repeated, lineFlat, unrolledOf}
+use Rattle.lines.specs.Data.{datumOut, oneDatum}
 use Rattle.lines.specs.Admit.{beyondOf, endsDiffer, endsTooLarge, tooLarge, validateKnots, validateMults, validatePoles}
 use Rattle.lists.specs.Rounds.{firsts, paired, remains}
 use Rattle.lists.specs.Tests.{eachTwo, every, total}
@@ -32,5 +33,5 @@ use Rattle.sheet.specs.Answers.{zeros, zeroDepths, reportText, searchText, line
 use Rattle.whole.specs.Example.{ExamplePrinted}
 
 pub example-printed : ExamplePrinted
-unfolding zeroMarks wholeTurn wordStands lineKind unrolledOf lineFlat turnOfPoles added alongAxis alongOneLine alphaOf apartAlong apartBy apartByNormal askWithin backOf between boundingBox boundsIn openBounds boxOf boxSize boxesApart chordOf clampOf coefficient copySlot cutTo cutsFrom dotOf eachTwo endOf every extentOf firsts flatKnots greatest hasWidth held homogeneousOf homogeneousPoles inside isLength isNear isNull isqrt knotOf least lerpOf lowerPart measured measuredBox measuredIn measuredVerdict middle mixOf netAt netOf placeOf netsOf normOf normalOf outOfMeasure paired parted passedOf piecesOf pointOf pointsFrom pointsOf rangeFits reachOf remains repeated restOf restricted rootIn rootUnits rounded secondHalved separatedOf share spanAround spanBezier spanEnd spanOf splitSlot summed testsOf tooLarge total upperPart validateKnots validateMults endsDiffer endsTooLarge beyondOf validatePoles vectors verdictOf weightOf within add sub mul div neg le lt eq ofBits sum round size units isNan toBits wordAt floatAt wordsFrom floatsFrom badLength badCount sizeOf partOf weightsOf lineAfter walkOf hexDigit digitsOf placesIn decimalOf hexOf bitsOf floatText counted stepsText settledText listedText countLine floatTexts regionLine regionLines refusalLine zeros zeroDepths reportText searchText linesText answerOf
+unfolding oneDatum datumOut zeroMarks wholeTurn wordStands lineKind unrolledOf lineFlat turnOfPoles added alongAxis alongOneLine alphaOf apartAlong apartBy apartByNormal askWithin backOf between boundingBox boundsIn openBounds boxOf boxSize boxesApart chordOf clampOf coefficient copySlot cutTo cutsFrom dotOf eachTwo endOf every extentOf firsts flatKnots greatest hasWidth held homogeneousOf homogeneousPoles inside isLength isNear isNull isqrt knotOf least lerpOf lowerPart measured measuredBox measuredIn measuredVerdict middle mixOf netAt netOf placeOf netsOf normOf normalOf outOfMeasure paired parted passedOf piecesOf pointOf pointsFrom pointsOf rangeFits reachOf remains repeated restOf restricted rootIn rootUnits rounded secondHalved separatedOf share spanAround spanBezier spanEnd spanOf splitSlot summed testsOf tooLarge total upperPart validateKnots validateMults endsDiffer endsTooLarge beyondOf validatePoles vectors verdictOf weightOf within add sub mul div neg le lt eq ofBits sum round size units isNan toBits wordAt floatAt wordsFrom floatsFrom badLength badCount sizeOf partOf weightsOf lineAfter walkOf hexDigit digitsOf placesIn decimalOf hexOf bitsOf floatText counted stepsText settledText listedText countLine floatTexts regionLine regionLines refusalLine zeros zeroDepths reportText searchText linesText answerOf
 example-printed = refl

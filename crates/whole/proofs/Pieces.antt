@@ -69,7 +69,7 @@ module _ (s : List ℕ) where
   unfolding lineAfter
   line-read at go f =
       part-read (lineKind (wordStands s 8 at)) at _
-      (λ a b c. part-read 2 c _ (λ d e g. part-read 3 g _ (λ h i j. part-read 4 j _ (λ k l m. weights-read m _ (λ n o p. f _ p (floats-read e d))))))
+      (λ a b c. part-read 2 c _ (λ d e g. part-read 3 g _ (λ h i j. part-read 4 j _ (λ k l m. weights-read m _ (λ n o p. part-read 9 p _ (λ q r t. f _ t (floats-read e d)))))))
 
   walk-read : Read (walkOf s)
   unfolding walkOf

@@ -12,15 +12,16 @@ use lib.Ieee.{Float}
 use Rattle.lists.specs.Members.{All}
 use Rattle.lines.specs.Admit.{admissionNumber, admitOf}
 use Rattle.lines.specs.Lines.{Line, Question}
+use Rattle.lines.specs.Data.{oneDatum}
 use Rattle.questions.specs.declared.Asked.{Asked as AskAnswer}
 use Rattle.questions.specs.declared.Asked.the-variants.{Fine, RangeOutOfBounds, GapOutOfRange, TooManySplits, BreaksTooClose}
 use Rattle.questions.specs.Questions.{askedNumber, askedLine, askOf}
 use Rattle.facts.specs.Faults.{askedPlace, LineFault, FirstLineFault, QuestionFault, FirstQuestionFault}
-use Rattle.facts.proofs.Facts.{line-table, question-table}
+use Rattle.facts.proofs.Facts.{line-table, data-table, question-table}
 use Rattle.states.specs.declared.State.{State}
 use Rattle.states.specs.States.{Memory, sizes, needed, enough}
 use Rattle.opening.specs.declared.Opened.{Opened}
-use Rattle.opening.specs.declared.Opened.the-variants.{Open, BadLine, BadQuestion, NoRoom}
+use Rattle.opening.specs.declared.Opened.the-variants.{Open, BadLine, BadDatum, BadQuestion, NoRoom}
 use Rattle.opening.specs.Asked.{start, stateOf, openMemory}
 use Rattle.opening.specs.Opens.{searchFor, isAdmitted, isFine, piecesFit, piecesIn, Pushing, pushing, Opening, opening, openDef}
 use Rattle.opening.proofs.Laws.{is-admitted}
@@ -28,7 +29,7 @@ use Rattle.walks.specs.Words.{wordAt, kindOf, countOf}
 use Rattle.walks.specs.Sheets.{Walked, walked, refusedAs, badLength, badCount, sizeOf, partOf, wordStands, weightsOf, lineKind, lineAfter, walkOf}
 use Rattle.printing.specs.Printed.{refusalLine}
 use Rattle.sheet.specs.Answers.{zeros, lent, openedText, linesText, walkedText, answerOf, lentOutput}
-use Rattle.whole.specs.Refusals.{OneOf, Numbered, GoodLine, GoodQuestion, Short, Faultless, Fault, inSheet, inFirst, inSecond, inQuestion, inMemory, FaultPrinted}
+use Rattle.whole.specs.Refusals.{OneOf, Numbered, DatumFault, GoodLine, GoodData, GoodQuestion, Short, Faultless, Fault, inSheet, inFirst, inSecond, inData, inQuestion, inMemory, FaultPrinted}
 
 -- ---- the walk refuses with 1, 2 or 3
 abbrev Few : Walked → Type 0
@@ -61,7 +62,7 @@ module _ (s : List ℕ) where
 
   few-line : (at : ℕ) (go : Line → ℕ → Walked) → ((l : Line) (n : ℕ) → Few (go l n)) → Few (lineAfter s at go)
   unfolding lineAfter
-  few-line at go f = few-part (lineKind (wordStands s 8 at)) at _ (λ a b c. few-part 2 c _ (λ d e g. few-part 3 g _ (λ h i j. few-part 4 j _ (λ k l m. few-weights m _ (λ n o p. f _ p)))))
+  few-line at go f = few-part (lineKind (wordStands s 8 at)) at _ (λ a b c. few-part 2 c _ (λ d e g. few-part 3 g _ (λ h i j. few-part 4 j _ (λ k l m. few-weights m _ (λ n o p. few-part 9 p _ (λ q r t. f _ t))))))
 
   few-walk : Few (walkOf s)
   unfolding walkOf
@@ -107,22 +108,23 @@ snd-of m n e = sym (ap (λ (p : ℕ × ℕ). p .1) e)
 
 question-number : (n place : ℕ) (q : Question) → QuestionFault (n, place) q → Numbered n place
 question-number n place q (inl x) =
-    inr (inl (snd-of (15, 1) (n, place) (x .0)), inr (inr (inr (inr (inr (inr (inr (inr (inr (inr (inr (inr (inl (fst-of (15, 1) (n, place) (x .0)))))))))))))))
+    inr (inl (inl (snd-of (15, 1) (n, place) (x .0)), inr (inr (inr (inr (inr (inr (inr (inr (inr (inr (inr (inr (inl (fst-of (15, 1) (n, place) (x .0))))))))))))))))
 question-number n place q (inr (inl x)) =
-    inr (inr (inl (snd-of (15, 2) (n, place) (x .0))), inr (inr (inr (inr (inr (inr (inr (inr (inr (inr (inr (inr (inl (fst-of (15, 2) (n, place) (x .0)))))))))))))))
+    inr (inl (inr (inl (snd-of (15, 2) (n, place) (x .0))), inr (inr (inr (inr (inr (inr (inr (inr (inr (inr (inr (inr (inl (fst-of (15, 2) (n, place) (x .0))))))))))))))))
 question-number n place q (inr (inr (inl x))) = inl (snd-of (16, 0) (n, place) (x .0), inr (inr (inr (inl (fst-of (16, 0) (n, place) (x .0))))))
 question-number n place q (inr (inr (inr (inl x)))) = inl (snd-of (17, 0) (n, place) (x .0), inr (inr (inr (inr (inl (fst-of (17, 0) (n, place) (x .0)))))))
 question-number n place q (inr (inr (inr (inr (inl x))))) =
-    inr (inl (snd-of (18, 1) (n, place) (x .0)), inr (inr (inr (inr (inr (inr (inr (inr (inr (inr (inr (inr (inr (inl (fst-of (18, 1) (n, place) (x .0))))))))))))))))
+    inr (inl (inl (snd-of (18, 1) (n, place) (x .0)), inr (inr (inr (inr (inr (inr (inr (inr (inr (inr (inr (inr (inr (inl (fst-of (18, 1) (n, place) (x .0)))))))))))))))))
 question-number n place q (inr (inr (inr (inr (inr x))))) =
-    inr (inr (inl (snd-of (18, 2) (n, place) (x .0))), inr (inr (inr (inr (inr (inr (inr (inr (inr (inr (inr (inr (inr (inl (fst-of (18, 2) (n, place) (x .0))))))))))))))))
+    inr (inl (inr (inl (snd-of (18, 2) (n, place) (x .0))), inr (inr (inr (inr (inr (inr (inr (inr (inr (inr (inr (inr (inr (inl (fst-of (18, 2) (n, place) (x .0)))))))))))))))))
 
 pub fault-numbered : (s : List ℕ) (n place : ℕ) → Fault s n place → Numbered n place
 fault-numbered s n place (inSheet e p) = inl (p, walk-number n (subst Few e (few-walk s)))
-fault-numbered s n place (inFirst q e f p) = inr (inl p, line-number n (q .line1) (f .0))
-fault-numbered s n place (inSecond q e g f p) = inr (inr (inl p), line-number n (q .line2) (f .0))
-fault-numbered s n place (inQuestion q e g h f) = question-number n place q (f .0)
-fault-numbered s n place (inMemory q e g h f l m p) = inl (p, inr (inr (inr (inr (inr (inl m))))))
+fault-numbered s n place (inFirst q e f p) = inr (inl (inl p, line-number n (q .line1) (f .0)))
+fault-numbered s n place (inSecond q e g f p) = inr (inl (inr (inl p), line-number n (q .line2) (f .0)))
+fault-numbered s n place (inData q e g h f m p) = inr (inr (p, m))
+fault-numbered s n place (inQuestion q e g h o f) = question-number n place q (f .0)
+fault-numbered s n place (inMemory q e g h o f l m p) = inl (p, inr (inr (inr (inr (inr (inl m))))))
 
 -- ---- numbers above 0
 positive : (l : List ℕ) (n : ℕ) → All (λ (k : ℕ). 0 < k) l → OneOf l n → 0 < n
@@ -151,10 +153,10 @@ over-zero zero e = absurd (false≢true (sym e))
 over-zero (suc n) e = omega arith
 
 -- ---- the tests, from the table's words and back
-good-admitted : (l : Line) → GoodLine l → isAdmitted (admitOf l) ≡ true
+pub good-admitted : (l : Line) → GoodLine l → isAdmitted (admitOf l) ≡ true
 good-admitted l g = ap isAdmitted (line-table l .1 .1 g)
 
-admitted-good : (l : Line) → isAdmitted (admitOf l) ≡ true → GoodLine l
+pub admitted-good : (l : Line) → isAdmitted (admitOf l) ≡ true → GoodLine l
 admitted-good l e = line-table l .1 .0 (is-admitted (admitOf l) e)
 
 fault-refused : (l : Line) (n : ℕ) → FirstLineFault n l → (admissionNumber (admitOf l) ≡ n) × (isAdmitted (admitOf l) ≡ false)
@@ -164,6 +166,22 @@ fault-refused l n f =
 
 refused-fault : (l : Line) → isAdmitted (admitOf l) ≡ false → FirstLineFault (admissionNumber (admitOf l)) l
 refused-fault l e = line-table l .0 (admissionNumber (admitOf l)) (over-zero (admissionNumber (admitOf l)) e) .0 refl
+
+-- two data, from the row's words and back
+abbrev pub dataTest : Question → Bool
+dataTest q = oneDatum (q .line1 .datum) (q .line2 .datum)
+
+good-one : (q : Question) → GoodData q → dataTest q ≡ true
+good-one q o = data-table (q .line1 .datum) (q .line2 .datum) .1 .1 o
+
+one-good : (q : Question) → dataTest q ≡ true → GoodData q
+one-good q e = data-table (q .line1 .datum) (q .line2 .datum) .1 .0 e
+
+pub fault-off : (q : Question) → DatumFault q → dataTest q ≡ false
+fault-off q f = data-table (q .line1 .datum) (q .line2 .datum) .0 .1 f
+
+pub off-fault : (q : Question) → dataTest q ≡ false → DatumFault q
+off-fault q e = data-table (q .line1 .datum) (q .line2 .datum) .0 .0 e
 
 is-fine : (a : AskAnswer) → isFine a ≡ true → a ≡ Fine
 is-fine Fine e = refl
@@ -199,9 +217,9 @@ module _ (q : Question) where
   abbrev x : State
   x = stateOf (searchFor q) (start (searchFor q))
 
-  abbrev byTests : Bool → Bool → Bool → Bool → Bool → Opened
-  byTests a b c d e =
-      cond a (cond b (cond c (cond d (cond e (Open x) NoRoom) NoRoom) (BadQuestion (askOf q))) (BadLine 2 (admitOf (q .line2)))) (BadLine 1 (admitOf (q .line1)))
+  abbrev byTests : Bool → Bool → Bool → Bool → Bool → Bool → Opened
+  byTests a b n c d e =
+      cond a (cond b (cond n (cond c (cond d (cond e (Open x) NoRoom) NoRoom) (BadQuestion (askOf q))) BadDatum) (BadLine 2 (admitOf (q .line2)))) (BadLine 1 (admitOf (q .line1)))
 
   abbrev pushes : Bool → Opening
   pushes e =
@@ -209,23 +227,25 @@ module _ (q : Question) where
       opening (o .answer) (piecesIn (q .line1) (q .lo1) (q .hi1) z) (piecesIn (q .line2) (q .lo2) (q .hi2) z) (o .memory)
 
   tested : openDef q z z lent .answer
-      ≡ byTests (isAdmitted (admitOf (q .line1))) (isAdmitted (admitOf (q .line2))) (isFine (askOf q)) (piecesFit q z z) (enough (needed x) (sizes lent))
-  tested = go (isAdmitted (admitOf (q .line1))) (isAdmitted (admitOf (q .line2))) (isFine (askOf q)) (piecesFit q z z) (enough (needed x) (sizes lent))
+      ≡ byTests (isAdmitted (admitOf (q .line1))) (isAdmitted (admitOf (q .line2))) (dataTest q) (isFine (askOf q)) (piecesFit q z z) (enough (needed x) (sizes lent))
+  tested = go (isAdmitted (admitOf (q .line1))) (isAdmitted (admitOf (q .line2))) (dataTest q) (isFine (askOf q)) (piecesFit q z z) (enough (needed x) (sizes lent))
     where
-      go : (a b c d e : Bool)
-          → cond {A = Opening} a (cond b (cond c (cond d (pushes e) (opening NoRoom z z lent)) (opening (BadQuestion (askOf q)) z z lent))
+      go : (a b n c d e : Bool)
+          → cond {A = Opening} a (cond b
+          (cond n (cond c (cond d (pushes e) (opening NoRoom z z lent)) (opening (BadQuestion (askOf q)) z z lent)) (opening BadDatum z z lent))
           (opening (BadLine 2 (admitOf (q .line2))) z z lent)) (opening (BadLine 1 (admitOf (q .line1))) z z lent) .answer
-          ≡ byTests a b c d e
-      go true true true true true = refl
-      go true true true true false = refl
-      go true true true false e = refl
-      go true true false d e = refl
-      go true false c d e = refl
-      go false b c d e = refl
+          ≡ byTests a b n c d e
+      go true true true true true true = refl
+      go true true true true true false = refl
+      go true true true true false e = refl
+      go true true true false d e = refl
+      go true true false c d e = refl
+      go true false n c d e = refl
+      go false b n c d e = refl
 
-  tested-as : {a b c d e : Bool} → isAdmitted (admitOf (q .line1)) ≡ a → isAdmitted (admitOf (q .line2)) ≡ b → isFine (askOf q) ≡ c → piecesFit q z z ≡ d
-      → enough (needed x) (sizes lent) ≡ e → openDef q z z lent .answer ≡ byTests a b c d e
-  tested-as ea eb ec ed ee = tested ∙ (λ i. byTests (ea i) (eb i) (ec i) (ed i) (ee i))
+  tested-as : {a b n c d e : Bool} → isAdmitted (admitOf (q .line1)) ≡ a → isAdmitted (admitOf (q .line2)) ≡ b → dataTest q ≡ n → isFine (askOf q) ≡ c → piecesFit q z z ≡ d
+      → enough (needed x) (sizes lent) ≡ e → openDef q z z lent .answer ≡ byTests a b n c d e
+  tested-as ea eb en ec ed ee = tested ∙ (λ i. byTests (ea i) (eb i) (en i) (ec i) (ed i) (ee i))
 
   -- what is printed for an answer that is no open search
   said : (s : List ℕ) → walkOf s ≡ walked q → (a : Opened) (l : List ℕ) → openDef q z z lent .answer ≡ a
@@ -238,16 +258,19 @@ unfolding answerOf
 fault-printed s n place (inSheet e p) = ap walkedText e ∙ ap (refusalLine n) (sym p)
 fault-printed s n place (inFirst q w f p) =
     let r = fault-refused (q .line1) n f in
-    said q s w (BadLine 1 (admitOf (q .line1))) (refusalLine n place) (tested-as q (r .1) refl refl refl refl) (λ m. (λ i. refusalLine (r .0 i) (sym p i)))
+    said q s w (BadLine 1 (admitOf (q .line1))) (refusalLine n place) (tested-as q (r .1) refl refl refl refl refl) (λ m. (λ i. refusalLine (r .0 i) (sym p i)))
 fault-printed s n place (inSecond q w g f p) =
     let r = fault-refused (q .line2) n f in
-    said q s w (BadLine 2 (admitOf (q .line2))) (refusalLine n place) (tested-as q (good-admitted (q .line1) g) (r .1) refl refl refl)
+    said q s w (BadLine 2 (admitOf (q .line2))) (refusalLine n place) (tested-as q (good-admitted (q .line1) g) (r .1) refl refl refl refl)
     (λ m. (λ i. refusalLine (r .0 i) (sym p i)))
-fault-printed s n place (inQuestion q w g h f) =
+fault-printed s n place (inData q w g h f k p) =
+    said q s w BadDatum (refusalLine n place) (tested-as q (good-admitted (q .line1) g) (good-admitted (q .line2) h) (fault-off q f) refl refl refl)
+    (λ m. (λ i. refusalLine (sym k i) (sym p i)))
+fault-printed s n place (inQuestion q w g h o f) =
     let r = fault-asked q g h (n, place) f in
-    said q s w (BadQuestion (askOf q)) (refusalLine n place) (tested-as q (good-admitted (q .line1) g) (good-admitted (q .line2) h) (r .1) refl refl)
+    said q s w (BadQuestion (askOf q)) (refusalLine n place) (tested-as q (good-admitted (q .line1) g) (good-admitted (q .line2) h) (good-one q o) (r .1) refl refl)
     (λ m. (λ i. refusalLine (r .0 i .0) (r .0 i .1)))
-fault-printed s n place (inMemory q w g h f l m p) =
+fault-printed s n place (inMemory q w g h o f l m p) =
     said q s w NoRoom (refusalLine n place) (short l) (λ u. (λ i. refusalLine (sym m i) (sym p i)))
   where
     either : (d : Bool) → cond d (cond false (Open (x q)) NoRoom) NoRoom ≡ NoRoom
@@ -255,9 +278,9 @@ fault-printed s n place (inMemory q w g h f l m p) =
     either false = refl
 
     short : Short q → openDef q (zeros 8112) (zeros 8112) lent .answer ≡ NoRoom
-    short (inl e) = tested-as q (good-admitted (q .line1) g) (good-admitted (q .line2) h) (good-fine q g h f) e refl
+    short (inl e) = tested-as q (good-admitted (q .line1) g) (good-admitted (q .line2) h) (good-one q o) (good-fine q g h f) e refl
     short (inr e) =
-        tested-as q (good-admitted (q .line1) g) (good-admitted (q .line2) h) (good-fine q g h f) refl e ∙ either (piecesFit q (zeros 8112) (zeros 8112))
+        tested-as q (good-admitted (q .line1) g) (good-admitted (q .line2) h) (good-one q o) (good-fine q g h f) refl e ∙ either (piecesFit q (zeros 8112) (zeros 8112))
 
 -- ---- every sheet has a fault, or is opened
 pub data Met (s : List ℕ) : Type 0 where
@@ -266,30 +289,32 @@ pub data Met (s : List ℕ) : Type 0 where
 
 met-walked : (s : List ℕ) (q : Question) → walkOf s ≡ walked q → Met s
 met-walked s q w =
-    go (isAdmitted (admitOf (q .line1))) refl (isAdmitted (admitOf (q .line2))) refl (isFine (askOf q)) refl (piecesFit q (zeros 8112) (zeros 8112)) refl
+    go (isAdmitted (admitOf (q .line1))) refl (isAdmitted (admitOf (q .line2))) refl (dataTest q) refl (isFine (askOf q)) refl (piecesFit q (zeros 8112) (zeros 8112)) refl
     (enough (needed (x q)) (sizes lent)) refl
   where
-    go : (a : Bool) → isAdmitted (admitOf (q .line1)) ≡ a → (b : Bool) → isAdmitted (admitOf (q .line2)) ≡ b → (c : Bool) → isFine (askOf q) ≡ c
+    go : (a : Bool) → isAdmitted (admitOf (q .line1)) ≡ a → (b : Bool) → isAdmitted (admitOf (q .line2)) ≡ b → (n : Bool) → dataTest q ≡ n → (c : Bool) → isFine (askOf q) ≡ c
         → (d : Bool) → piecesFit q (zeros 8112) (zeros 8112) ≡ d → (e : Bool) → enough (needed (x q)) (sizes lent) ≡ e → Met s
-    go false ea b eb c ec d ed e ee = faulty (admissionNumber (admitOf (q .line1))) 1 (inFirst q w (refused-fault (q .line1) ea) refl)
-    go true ea false eb c ec d ed e ee =
+    go false ea b eb n en c ec d ed e ee = faulty (admissionNumber (admitOf (q .line1))) 1 (inFirst q w (refused-fault (q .line1) ea) refl)
+    go true ea false eb n en c ec d ed e ee =
         faulty (admissionNumber (admitOf (q .line2))) 2 (inSecond q w (admitted-good (q .line1) ea) (refused-fault (q .line2) eb) refl)
-    go true ea true eb false ec d ed e ee =
+    go true ea true eb false en c ec d ed e ee =
+        faulty 23 2 (inData q w (admitted-good (q .line1) ea) (admitted-good (q .line2) eb) (off-fault q en) refl refl)
+    go true ea true eb true en false ec d ed e ee =
         let g = admitted-good (q .line1) ea in
         let h = admitted-good (q .line2) eb in
-        faulty (askedNumber (askOf q)) (askedLine (askOf q)) (inQuestion q w g h (asked-fault q g h ec))
-    go true ea true eb true ec false ed e ee =
+        faulty (askedNumber (askOf q)) (askedLine (askOf q)) (inQuestion q w g h (one-good q en) (asked-fault q g h ec))
+    go true ea true eb true en true ec false ed e ee =
         let g = admitted-good (q .line1) ea in
         let h = admitted-good (q .line2) eb in
-        faulty 19 0 (inMemory q w g h (fine-good q g h ec) (inl ed) refl refl)
-    go true ea true eb true ec true ed false ee =
+        faulty 19 0 (inMemory q w g h (one-good q en) (fine-good q g h ec) (inl ed) refl refl)
+    go true ea true eb true en true ec true ed false ee =
         let g = admitted-good (q .line1) ea in
         let h = admitted-good (q .line2) eb in
-        faulty 19 0 (inMemory q w g h (fine-good q g h ec) (inr ee) refl refl)
-    go true ea true eb true ec true ed true ee =
+        faulty 19 0 (inMemory q w g h (one-good q en) (fine-good q g h ec) (inr ee) refl refl)
+    go true ea true eb true en true ec true ed true ee =
         let g = admitted-good (q .line1) ea in
         let h = admitted-good (q .line2) eb in
-        opens q w (record { first = g; second = h; question = fine-good q g h ec; room = never ed ee }) (tested-as q ea eb ec ed ee)
+        opens q w (record { first = g; second = h; datum = one-good q en; question = fine-good q g h ec; room = never ed ee }) (tested-as q ea eb en ec ed ee)
       where
         never : piecesFit q (zeros 8112) (zeros 8112) ≡ true → enough (needed (x q)) (sizes lent) ≡ true → Short q → ⊥
         never ed ee (inl e) = false≢true (sym e ∙ ed)

@@ -10,13 +10,14 @@ use Rattle.sheet.specs.Answers.{answerOf}
 abbrev pub wordBytes : ℕ → List ℕ
 wordBytes w = w % 256 ∷ w / 256 % 256 ∷ w / 65536 % 256 ∷ w / 16777216 ∷ []
 
--- "the line (0,0,0) to (1,0,0), degree 1, knots 0 and 1 doubled", a float's low word first
+-- "the line (0,0,0) to (1,0,0), degree 1, knots 0 and 1 doubled", a float's low word first; "Document 01's printed sheet carries datum 1 twice"
 abbrev pub lineWords : List ℕ
 lineWords =
     0x1000_0001
     ∷ 0x2000_0002 ∷ 0 ∷ 0 ∷ 0 ∷ 0x3ff0_0000
     ∷ 0x3000_0002 ∷ 2 ∷ 2
-    ∷ 0x4000_0002 ∷ 0 ∷ 0 ∷ 0 ∷ 0 ∷ 0 ∷ 0 ∷ 0 ∷ 0x3ff0_0000 ∷ 0 ∷ 0 ∷ 0 ∷ 0 ∷ []
+    ∷ 0x4000_0002 ∷ 0 ∷ 0 ∷ 0 ∷ 0 ∷ 0 ∷ 0 ∷ 0 ∷ 0x3ff0_0000 ∷ 0 ∷ 0 ∷ 0 ∷ 0
+    ∷ 0x9000_0001 ∷ []
 
 -- "given twice, whole ranges, gap 0, S 0"
 abbrev pub example : List ℕ

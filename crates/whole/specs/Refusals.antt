@@ -1,15 +1,16 @@
 -- Which fault of a sheet gives which number, and with which line it is printed. Definitions only.
 use mathlib.Core.Path.{_≡_}
-use mathlib.Core.Logic.{_⊎_}
+use mathlib.Core.Logic.{_⊎_, _↔_}
 use mathlib.Core.Bool.{false}
 use mathlib.Core.List.{List, [], _∷_}
 use Prim.Native.Nat.{ℕ}
+use lib.Ieee.{Float}
 use Rattle.lists.specs.Members.{Any}
 use Rattle.lines.specs.Lines.{Line, Question}
-use Rattle.facts.specs.Faults.{LineFault, FirstLineFault, QuestionFault, FirstQuestionFault}
-use Rattle.states.specs.States.{sizes, needed, enough}
+use Rattle.facts.specs.Faults.{LineFault, FirstLineFault, Fault23, OneDatum, QuestionFault, FirstQuestionFault}
+use Rattle.states.specs.States.{Memory, sizes, needed, enough}
 use Rattle.opening.specs.Asked.{start, stateOf}
-use Rattle.opening.specs.Opens.{searchFor, piecesFit}
+use Rattle.opening.specs.Opens.{openedNumber, searchFor, piecesFit, openDef}
 use Rattle.walks.specs.Sheets.{walked, refusedAs, walkOf}
 use Rattle.sheet.specs.Answers.{zeros, lent, answerOf}
 use Rattle.printing.specs.Printed.{refusalLine}
@@ -17,15 +18,22 @@ use Rattle.printing.specs.Printed.{refusalLine}
 abbrev pub OneOf : List ℕ → ℕ → Type 0
 OneOf l n = Any (λ (k : ℕ). n ≡ k) l
 
--- "the number, and 1 or 2 for a line's fault, range or breaks (4 to 15 and 18), else 0", and 22 "printed with its line"; 20 and 21 are never printed
+-- "the number, and 1 or 2 for a line's fault, range or breaks (4 to 15 and 18), else 0", 22 "printed with its line", and 23 "printed with 2"; 20 and 21 are never printed
 abbrev pub Numbered : ℕ → ℕ → Type 0
 Numbered n place =
     ((place ≡ 0) × OneOf (1 ∷ 2 ∷ 3 ∷ 16 ∷ 17 ∷ 19 ∷ []) n)
-    ⊎ (OneOf (1 ∷ 2 ∷ []) place × OneOf (4 ∷ 5 ∷ 6 ∷ 7 ∷ 22 ∷ 8 ∷ 9 ∷ 10 ∷ 11 ∷ 12 ∷ 13 ∷ 14 ∷ 15 ∷ 18 ∷ []) n)
+    ⊎ ((OneOf (1 ∷ 2 ∷ []) place × OneOf (4 ∷ 5 ∷ 6 ∷ 7 ∷ 22 ∷ 8 ∷ 9 ∷ 10 ∷ 11 ∷ 12 ∷ 13 ∷ 14 ∷ 15 ∷ 18 ∷ []) n) ⊎ ((place ≡ 2) × (n ≡ 23)))
+
+-- 23 of a question's lines
+abbrev pub DatumFault : Question → Type 0
+DatumFault q = Fault23 (q .line1 .datum) (q .line2 .datum)
 
 -- no row of the table is met
 abbrev pub GoodLine : Line → Type 0
 GoodLine l = (n : ℕ) → LineFault n l → ⊥
+
+abbrev pub GoodData : Question → Type 0
+GoodData q = OneDatum (q .line1 .datum) (q .line2 .datum)
 
 abbrev pub GoodQuestion : Question → Type 0
 GoodQuestion q = (n : ℕ × ℕ) → QuestionFault n q → ⊥
@@ -38,17 +46,24 @@ Short q = (piecesFit q (zeros 8112) (zeros 8112) ≡ false) ⊎ (enough (needed 
 pub record Faultless (q : Question) : Type 0 where
   pub first : GoodLine (q .line1)
   pub second : GoodLine (q .line2)
+  pub datum : GoodData q
   pub question : GoodQuestion q
   pub room : Short q → ⊥
 
--- The table's places, in this order: the sheet; the first line, then the second; the question; the lent memory. The fault of each is the first row that it meets.
+-- The table's places, in this order: the sheet; the first line, then the second; their data; the question; the lent memory. The fault of each is the first row that it meets.
 pub data Fault (s : List ℕ) (n place : ℕ) : Type 0 where
   inSheet : walkOf s ≡ refusedAs n → place ≡ 0 → Fault s n place
   inFirst : (q : Question) → walkOf s ≡ walked q → FirstLineFault n (q .line1) → place ≡ 1 → Fault s n place
   inSecond : (q : Question) → walkOf s ≡ walked q → GoodLine (q .line1) → FirstLineFault n (q .line2) → place ≡ 2 → Fault s n place
-  inQuestion : (q : Question) → walkOf s ≡ walked q → GoodLine (q .line1) → GoodLine (q .line2) → FirstQuestionFault (n, place) q → Fault s n place
-  inMemory : (q : Question) → walkOf s ≡ walked q → GoodLine (q .line1) → GoodLine (q .line2) → GoodQuestion q → Short q → n ≡ 19 → place ≡ 0 → Fault s n place
+  inData : (q : Question) → walkOf s ≡ walked q → GoodLine (q .line1) → GoodLine (q .line2) → DatumFault q → n ≡ 23 → place ≡ 2 → Fault s n place
+  inQuestion : (q : Question) → walkOf s ≡ walked q → GoodLine (q .line1) → GoodLine (q .line2) → GoodData q → FirstQuestionFault (n, place) q → Fault s n place
+  inMemory : (q : Question) → walkOf s ≡ walked q → GoodLine (q .line1) → GoodLine (q .line2) → GoodData q → GoodQuestion q → Short q → n ≡ 19 → place ≡ 0 → Fault s n place
 
 -- each fault is printed with its number and place
 abbrev pub FaultPrinted : Type 0
 FaultPrinted = (s : List ℕ) (n place : ℕ) → Fault s n place → answerOf s ≡ refusalLine n place
+
+-- "When, and only then", number 23: an opening, whatever it is lent, answers 23 exactly if both lines are admitted and their data are not one number from 1 to 9,999.
+abbrev pub DatumTable : Type 0
+DatumTable = (q : Question) (p1 p2 : List Float) (u : Memory)
+    → (openedNumber (openDef q p1 p2 u .answer) ≡ 23) ↔ (GoodLine (q .line1) × GoodLine (q .line2) × DatumFault q)

@@ -1,6 +1,7 @@
 -- `answer` asks only of admitted lines. Assumes nothing.
 use mathlib.Core.Path.{sym, _∙_}
 use borrow.Author.Needs.{needs}
+use Rattle.lines.specs.Lines.{lineOf}
 use Rattle.lines.proofs.Admitted.{lengths}
 use Rattle.pieces_run.proofs.answer.Statement.{statement}
 use Rattle.pieces_run.proofs.answer.Tie as tie
@@ -37,8 +38,8 @@ returns-2 c = search needs
 
 ask-requires : tie.Need-ask-requires
 ask-requires c κs = (
-  lengths _ (sym (c .before .before .before .before .before .admit .ensures) ∙ c .before .before .before .enum-told .given .1),
-  lengths _ (sym (c .before .before .admit2 .ensures) ∙ c .enum-told2 .given .1),
+  lengths (lineOf _ _ _ _ _ _) (sym (c .before .before .before .before .before .admit .ensures) ∙ c .before .before .before .enum-told .given .1),
+  lengths (lineOf _ _ _ _ _ _) (sym (c .before .before .admit2 .ensures) ∙ c .enum-told2 .given .1),
 )
 
 enum-told-3 : tie.Need-enum-told-3
