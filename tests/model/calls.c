@@ -334,16 +334,14 @@ static int call_open(const Given given[2], const double range[2][2], double gap,
         if (fault) return fault + 256 * (i + 1);
         fill_flat(&sheet.line[i]);
         fill_list(&sheet.line[i]);
-        memcpy(sheet.line[i].range, range[i], sizeof sheet.line[i].range);
     }
     if (!one_datum(given[0].datum, given[1].datum)) return 23 + 256 * 2;
-    sheet.lines = 2;
+    memcpy(sheet.range, range, sizeof sheet.range);
     sheet.gap = gap;
     sheet.splits_per_pair = splits;
-    r = ask(&sheet);
-    if (r.number) return r.number + 256 * (int)r.place;
+    r = ask(&sheet, &breaks);
+    if (r.number) return r.number + 256 * r.line;
     if (n < STATE_WORDS) return 19;
-    take_pair(&breaks, &sheet, 1);
     for (int i = 0; i < 2; i++)
         if (4 * (size_t)breaks.width[i] * breaks.piece_count[i] > m->pieces[i].length)
             return 19;

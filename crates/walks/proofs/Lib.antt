@@ -1,4 +1,3 @@
 pub mod Laws
 pub mod Walks
-pub mod Charts
 pub mod Examples
