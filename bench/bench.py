@@ -14,9 +14,11 @@ for byte, marks apart, which the Rust lacks. In the same turns the library's cal
 the sheet's lines in memory that is made once (calls.c); they read no sheet and print nothing, so no ratio is taken of
 them.
 
-Then the memory of both sides, and the time of a report by its raw list (merge.c).
+Then charts, which the Rust lacks: it answers the sheet of the track and each line, and its figure is the sum of these; so does this side too. Then the memory of both
+sides, of the program on charts too, and the time of a report by its raw list (merge.c).
 """
 import os
+import re
 import subprocess
 import sys
 import tempfile
@@ -66,14 +68,25 @@ def least_stack(side, data):
     return 4 * high
 
 
+def turns(side, data, span):
+    """How many times the side answers the sheet in so many microseconds."""
+    tried, took = 1, side.times(data, 1)
+    while took < span / 8:
+        tried *= 2
+        took = side.times(data, tried)
+    return max(1, int(span * tried / took))
+
+
+def plain(text):
+    """An answer as the Rust has it, without marks and the three counts."""
+    return text and at_level(text.decode('ascii'), 1)
+
+
 def timed(name, data, rust, here, calls, runs):
     _, text = here.answer(data)
-    if text is None or at_level(text.decode('ascii'), 1).encode('ascii') != rust.answer(data)[1]:
+    if text is None or plain(text) != plain(rust.answer(data)[1]):
         sys.exit('%s: the answers differ' % name)
-    tried = 20
-    while rust.times(data, tried) < SPAN / 8:
-        tried *= 2
-    count = max(1, int(SPAN / (rust.times(data, tried) / tried)))
+    count = turns(rust, data, SPAN)
     best = [10 ** 12] * 3
     for _ in range(runs):
         best = [min(b, side.times(data, count)) for b, side in zip(best, (rust, here, calls))]
@@ -81,6 +94,23 @@ def timed(name, data, rust, here, calls, runs):
     raw = int(words['given']) + int(words['left'])
     return '| %s | %s | %s | %d | %s | %.1f | %.1f | %.2f | %.1f |' % (
         name, words['pairs'], words['visits'], raw, words['regions'], best[0] / count, best[1] / count, best[1] / best[0], best[2] / count)
+
+
+def timed_chart(name, area, rust, here, runs):
+    """A chart for a third of a second a run, and each of its pair sheets, on both sides, for a tenth."""
+    data, pairs = bench_sheets.chart_of(*area), bench_sheets.pairs_of(*area)
+    _, text = here.answer(data)
+    told = [plain(rust.answer(d)[1]) for d in pairs]
+    last = 'chart %s\n' % ('complete' if all(t.startswith('complete ') for t in told) else 'incomplete')
+    if plain(text) != ''.join(told) + last:
+        sys.exit('%s: the answers differ' % name)
+    sides = [(rust, d, turns(rust, d, SPAN / 3)) for d in pairs] + [(here, d, turns(here, d, SPAN / 3)) for d in pairs] + [(here, data, turns(here, data, SPAN))]
+    best = [10 ** 12] * len(sides)
+    for _ in range(runs):
+        best = [min(b, side.times(d, n) / n) for b, (side, d, n) in zip(best, sides)]
+    visits = sum(int(v) for v in re.findall(r' visits=(\d+) ', plain(text)))
+    alone, each, whole = sum(best[:len(pairs)]), sum(best[len(pairs):-1]), best[-1]
+    return '| %s | %d | %d | %.1f | %.1f | %.1f | %.2f | %.2f |' % (name, len(pairs), visits, alone, each, whole, whole / alone, whole / each)
 
 
 def main(args):
@@ -99,12 +129,19 @@ def main(args):
         print('| sheet | pairs | visits | raw regions | regions | Rust, µs | here, µs | ratio | calls, µs |\n|---|---|---|---|---|---|---|---|---|')
         for name, make, what in bench_sheets.MAIN + bench_sheets.GROWTH:
             print(timed(name, make(*what), rust, here, calls, int(given['--runs'])), flush=True)
+        print('\n| chart | lines | visits | Rust, pair sheets, µs | here, pair sheets, µs | here, µs | to the Rust | to pair sheets |\n|---|---|---|---|---|---|---|---|')
+        for name, what in bench_sheets.CHARTS:
+            print(timed_chart(name, bench_sheets.area(*what), rust, here, int(given['--runs'])), flush=True)
         print('\n| sheet | | Rust | here |\n|---|---|---|---|')
         for name in ('degree25', 'overlap3'):
             make, what = next((m, w) for n, m, w in bench_sheets.MAIN if n == name)
             data = make(*what)
             print('| %s | peak resident set, KB | %d | %d |' % (name, rust.answer(data)[0], here.answer(data)[0]))
             print('| %s | least stack limit, KB | %d | %d |' % (name, least_stack(rust, data), least_stack(here, data)), flush=True)
+        for name, what in bench_sheets.CHARTS:
+            data = bench_sheets.chart_of(*bench_sheets.area(*what))
+            print('| %s | peak resident set, KB | | %d |' % (name, here.answer(data)[0]))
+            print('| %s | least stack limit, KB | | %d |' % (name, least_stack(here, data)), flush=True)
         print(flush=True)
         subprocess.run([compiled(folder, 'merge', [given['--library']])], check=True)
 

@@ -8,12 +8,14 @@ MAIN    P = 3 starting pairs, S = 256, some 1,500 visits: lines of degree 1, 3, 
         lines of degree 3, 10 and 25 a little nearer to each other than the gap (beside); and one search of 81 visits,
         lines of degree 5 that keep clear of each other (clear5).
 GROWTH  the same lines with S from 1 to 256, P from 1 to 12, and raw lists of up to 396 regions.
+CHARTS  a track of three cubics against 1, 8 and 64 cubics that cross it in its middle (crossed), with S = 256 and, searched no further than the
+        opening, S = 0; and against 64 that keep clear of it (passed). Each as its lines, the track first, S and gap.
 """
 import os
 import sys
 
 sys.path.insert(0, os.path.join(os.path.dirname(os.path.abspath(__file__)), '..', 'tests'))
-from sheets import bezier, line, segment, sheet  # noqa: E402
+from sheets import bezier, chart, line, pair_sheets, segment, sheet  # noqa: E402
 
 
 def spans(parts, degree, weights=None):
@@ -34,12 +36,25 @@ def through_origin(degree, bend):
     return poles
 
 
-def meeting(degree, pairs, S):
-    """A line whose spans run to and fro through the origin, and one that crosses it there."""
+def to_and_fro(degree, pairs):
+    """A line whose spans run to and fro through the origin."""
     parts = [through_origin(degree, 0.5 + k / 4) for k in range(pairs)]
-    parts = [p if k % 2 == 0 else p[::-1] for k, p in enumerate(parts)]
-    across = [(-y, x, z) for x, y, z in through_origin(degree, 0.75)]
-    return sheet(spans(parts, degree), bezier(across), S=S)
+    return spans([p if k % 2 == 0 else p[::-1] for k, p in enumerate(parts)], degree)
+
+
+def across(degree, bend, depth=0.0):
+    """A line that crosses it there, or passes at this depth below it."""
+    return bezier([(-y, x, z - depth) for x, y, z in through_origin(degree, bend)])
+
+
+def meeting(degree, pairs, S):
+    """The two of them."""
+    return sheet(to_and_fro(degree, pairs), across(degree, 0.75), S=S)
+
+
+def area(count, S, depth=0.0):
+    """A track and so many lines that cross it, or pass below it: lines, S and gap of a chart."""
+    return [to_and_fro(3, 3)] + [across(3, 0.75 + k / 128, depth) for k in range(count)], S, 0.25 if depth else 0.0
 
 
 ARC = [(0.0, 0.0, 0.0), (1.0, 2.0, 0.0), (3.0, 2.0, 1.0), (4.0, 0.0, 2.0)]
@@ -89,14 +104,26 @@ GROWTH = [('degree3-P3-S%d' % s, meeting, (3, 3, s)) for s in (1, 16, 64, 256)] 
     ('overlap3-P%d-S%d' % (p, s), overlap, (p, s)) for p, s in ((1, 64), (1, 256), (3, 256), (12, 67))] + [
     ('waves-P12-S%d' % s, waves, (s,)) for s in (16, 67)]
 
+CHARTS = [('crossed-N%d-S%d' % (n, s), (n, s)) for n, s in ((1, 256), (8, 256), (64, 256), (1, 0), (64, 0))] + [('passed-N64-S256', (64, 256, 0.75))]
+
+
+def chart_of(lines, S, gap):
+    return chart(lines, S=S, gap=gap)
+
+
+def pairs_of(lines, S, gap):
+    """The sheet of the track and each line."""
+    return pair_sheets(lines, S=S, gap=gap)
+
 
 def main(args):
     if len(args) != 1:
         sys.exit(__doc__)
     os.makedirs(args[0], exist_ok=True)
-    for name, make, what in MAIN + GROWTH:
+    all_sheets = [(name, make(*what)) for name, make, what in MAIN + GROWTH] + [(name, chart_of(*area(*what))) for name, what in CHARTS]
+    for name, data in all_sheets:
         with open(os.path.join(args[0], name + '.sheet'), 'wb') as f:
-            f.write(make(*what))
+            f.write(data)
 
 
 if __name__ == '__main__':

@@ -21,20 +21,23 @@
  * ties to even, subnormals kept (a program linked for fast, inexact math turns
  * these off). Any double is taken, NaN too.
  *
- * STACK, as measured, with a margin: lovgurshem_answer wants 640 KB,
- * lovgurshem_open 80 KB, the others 16 KB. Of the C library memcpy and memset
- * are called, and nothing else.
+ * STACK, as measured, with a margin: lovgurshem_answer and lovgurshem_next want
+ * 640 KB, however many lines a chart has, lovgurshem_open and lovgurshem_examine
+ * 80 KB, the others 16 KB. Of the C library memcpy and memset are called, and
+ * nothing else.
  *
- * NUMBERS. Answers of open, step, run and report are 0, or the number of the
- * refusal: 4 to 14 and 22 a line's fault, 23 lines that are not of one datum,
- * 15 to 18 the question's fault, 19 a slice that is shorter than needed or a
- * state that is no search's, 20 a search that has ended, 21 one that hasn't. A
- * line's fault, range or breaks (4 to 15, 18 and 22) have 256 times the line, 1
- * or 2, added, and 23 has 256 times 2. 1 to 18 and from 22 on leave the words
- * and every slice as they were. The numbers are tested in this order:
+ * NUMBERS. Answers of examine, open, step, run and report are 0, or the number
+ * of the refusal: 4 to 14 and 22 a line's fault, 23 lines that are not of one
+ * datum, 15 to 18 the question's fault, 19 a slice that is shorter than needed
+ * or a state that is no search's, 20 a search that has ended, 21 one that
+ * hasn't. A line's fault, range or breaks (4 to 15, 18 and 22) have 256 times
+ * the line, 1 or 2, added, and 23 has 256 times 2. 1 to 18 and from 22 on leave
+ * the words and every slice as they were. The numbers are tested in this order:
  *   open     4 to 14 of the first line, with 22 of a closed one after 7; the
  *            same of the second; 23; 15 to 18; 19 for the state's words and the
  *            pieces; 19 for the rest
+ *   examine  as open, with the word for P in the place of the state's words, and
+ *            no 19 for a rest
  *   others   19 for words that are no state's (below), before everything else;
  *            then in own verdict and step 20, in report 21; then 19, in report
  *            for the counts too (run is refused as the step that it takes)
@@ -82,14 +85,11 @@
  *   depths             P + 64
  *   marks              P * (S + 1)
  *   raw, report        10 * P * (S + 1) each
- * P is at most the product of the two counts of pieces, and known after the
- * opening. A call that needs a slice and is lent a shorter one is number 19;
- * a step or report then changes nothing, and lent enough the next call goes on.
- *
- * A refusal doesn't tell P. To learn it, open the search first with 0 splits
- * per pair, lending for the product of the counts of pieces: raw is then 10
- * for each pair, where S splits take S + 1 times as much. At 0 the state's word
- * 0 is P, which doesn't depend on S. Then lend for P and S, and open again.
+ * P is at most the product of the two counts of pieces. A call that needs a slice
+ * and is lent a shorter one is number 19; a step or report then changes nothing,
+ * and lent enough the next call goes on. To learn P before the rest is lent, call
+ * lovgurshem_examine with the pieces alone: an opening of the same lines and
+ * question that is then lent for this P isn't refused.
  */
 #ifndef LOVGURSHEM_H
 #define LOVGURSHEM_H
@@ -105,8 +105,10 @@ extern "C" {
 #define LOVGURSHEM_STATE 23
 #define LOVGURSHEM_COUNTS 12
 
-/* Bytes of a buffer that every sheet's answer fits. */
+/* Bytes of a buffer that every instalment of an answer fits, and so every answer
+ * that is no chart's; words of a cursor. */
 #define LOVGURSHEM_ANSWER 162446
+#define LOVGURSHEM_CURSOR 2
 
 /* Verdicts, as own verdict answers them and as a step takes them; settled by
  * box, by plane and by line. */
@@ -122,13 +124,41 @@ extern "C" {
 #define LOVGURSHEM_UNSEPARATED_WORD 2
 
 /*
- * The answer to a sheet, byte for byte what the program clearance prints for
- * it, written from the front of out; answers its length, which is never 0.
- * With fewer than LOVGURSHEM_ANSWER bytes in out it writes nothing and answers
- * 0. The rest of out stays as it was. Any bytes are answered: those that are
- * no sheet with "refused" and a number.
+ * The answer to a sheet that is no chart, byte for byte what the program
+ * clearance prints for it, written from the front of out; answers its length,
+ * which is never 0. The rest of out stays as it was. Any other bytes are
+ * answered too: those that are no sheet with "refused" and a number. With fewer
+ * than LOVGURSHEM_ANSWER bytes in out, and for a chart, whose answer comes in
+ * instalments (below), it writes nothing and answers 0.
  */
 size_t lovgurshem_answer(const uint8_t *sheet, size_t sheet_length,
+    uint8_t *out, size_t out_length);
+
+/*
+ * The next instalment of the answer to any sheet, a chart's too, written from
+ * the front of out; answers its length, 0 when nothing is left. Joined, they are
+ * byte for byte what the program clearance prints:
+ *
+ *     uint64_t cursor[LOVGURSHEM_CURSOR] = { 0, 0 };
+ *     size_t n;
+ *     while ((n = lovgurshem_next(sheet, length, cursor, LOVGURSHEM_CURSOR,
+ *                 out, LOVGURSHEM_ANSWER)) != 0)
+ *         fwrite(out, 1, n, stdout);
+ *
+ * A chart that isn't refused has an instalment for each line and one for the
+ * last line, at most 65; every other answer is one instalment. The cursor's
+ * word 0 is how many were taken, 0 to begin with. Word 1, unread at 0, is 2
+ * where nothing follows, else 1 or 0, whether each report so far says complete;
+ * any number above 2 is as 2. With other words than the calls on this sheet left
+ * there the answer may be another, and nothing else than cursor and out is
+ * written.
+ *
+ * With fewer than LOVGURSHEM_ANSWER bytes in out or LOVGURSHEM_CURSOR words in
+ * cursor 0 is answered. An answer of 0 changes nothing. Any other adds 1 to word
+ * 0, writes word 1 and the instalment's bytes, and leaves the rest as it was.
+ */
+size_t lovgurshem_next(const uint8_t *sheet, size_t sheet_length,
+    uint64_t *cursor, size_t cursor_length,
     uint8_t *out, size_t out_length);
 
 /*
@@ -173,6 +203,36 @@ uint32_t lovgurshem_open(double lo1, double hi1, double lo2, double hi2,
     uint8_t *depths, size_t depths_length,
     const double *raw, size_t raw_length,
     uint64_t *state, size_t state_length);
+
+/*
+ * The first act of an opening of these lines and this question: decides what an
+ * opening decides before it writes, then writes the pieces' nets to pieces1 and
+ * pieces2, and P to the first word of pairs. Nothing else is written, and a
+ * refusal writes nothing.
+ *
+ * Refused as lovgurshem_open is, up to its 19 for short pieces, with which no
+ * word in pairs is 19 too. At 0 lovgurshem_open, lent pieces that are as long,
+ * the state's words, and nets, ranges, depths and raw for this P, answers 0, and
+ * the state's word 0 is this P. With another number than 0, and a word in pairs,
+ * lovgurshem_open on the same pieces, lent the state's words, has the same.
+ */
+uint32_t lovgurshem_examine(double lo1, double hi1, double lo2, double hi2,
+    double gap, uint32_t splits,
+    uint32_t closed1, uint32_t degree1,
+    const double *knots1, size_t knots1_length,
+    const uint32_t *mults1, size_t mults1_length,
+    const double *coords1, size_t coords1_length,
+    const double *weights1, size_t weights1_length,
+    uint32_t datum1,
+    uint32_t closed2, uint32_t degree2,
+    const double *knots2, size_t knots2_length,
+    const uint32_t *mults2, size_t mults2_length,
+    const double *coords2, size_t coords2_length,
+    const double *weights2, size_t weights2_length,
+    uint32_t datum2,
+    double *pieces1, size_t pieces1_length,
+    double *pieces2, size_t pieces2_length,
+    uint64_t *pairs, size_t pairs_length);
 
 /*
  * What the clearing tests give for the top node's nets and the state's gap:

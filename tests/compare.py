@@ -11,19 +11,20 @@ once a sheet. Answers are compared byte for byte with the first program's.
                 sheet, with --pieces)
   --no-drawn    leave the drawn sheets out
   --level L     the level of document 02: 1 (document 01), 100 (closed lines),
-                101 (stretch marks), 103 (box=, plane= and line=) or 104 (data,
-                the default). Sheets of higher levels are left out. Below 104
-                every sheet is in the form of before, whose lines have no datum,
-                stored ones too; below 103 the three counts, below 101 the
-                regions' marks too are dropped from all answers. A program of
-                document 01 alone answers two drawn sheets of level 1 otherwise:
-                first-kind-8 and second-kind-8, which M-100 reads as closed lines
+                101 (stretch marks), 103 (box=, plane= and line=), 104 (data) or
+                105 (charts, the default). Sheets of higher levels are left out.
+                Below 104 every sheet is in the form of before, whose lines have
+                no datum, stored ones too; below 103 the three counts, below 101
+                the regions' marks too are dropped from all answers. Two programs
+                must be of the same side of M-100, whose kind 8 opens a line, and
+                of M-105, to which a sheet with no second line is a chart
   --replay DIR  make the sheets from DIR/sheets.txt and hold every program
                 against DIR/answers.txt; SEED and N are left out
   --save DIR    where sheets with a difference are saved (default: .)
 
-From level 103 on an answer whose three counts don't sum to settled, or with more
-nodes settled by box than halves were made, is a difference too.
+From level 103 on a report whose three counts don't sum to settled, or with more
+nodes settled by box than halves were made, is a difference too; so is an answer
+that is no refusal, no report and no chart's reports with their last line.
 Exit 1 on a difference.
 """
 import collections
@@ -87,13 +88,16 @@ def batches(source):
 
 
 def key(answer):
-    """What an answer counts as in the summary."""
-    first = answer.split('\n', 1)[0].split(' ')
-    return ' '.join(first[:3]) if first[0] == 'refused' else first[0]
+    """What an answer counts as in the summary; places from 3 on together."""
+    lines = answer.splitlines() or ['']
+    parts = lines[0].split(' ')
+    if parts[0] == 'refused' and len(parts) == 3:
+        return ' '.join(parts[:2] + [parts[2] if parts[2] in ('0', '1', '2') else 'over 2'])
+    return lines[-1] if lines[-1].startswith('chart ') else parts[0]
 
 
 def key_order(k):
-    parts = k.split(' ')
+    parts = k.split(' ', 2)
     return (1, int(parts[1]), parts[2]) if parts[0] == 'refused' and len(parts) == 3 else (0, 0, k)
 
 
@@ -102,6 +106,7 @@ class Comparison:
         self.save = save
         self.level = level
         self.count = 0
+        self.lines = 0  # reports of charts
         self.different = 0
         self.groups = 0
         self.tags = [0, 0, 0]  # nodes settled by box, by plane, by line
@@ -130,17 +135,21 @@ class Comparison:
         for i, (name, d, wanted) in enumerate(items):
             texts = [sheets.at_level(l[i], self.level) for l in lists]
             wanted = wanted and sheets.at_level(wanted, self.level)
-            self.count_answer(texts[0])
+            plain = ''.join(l for l in texts[0].splitlines(True) if not l.startswith('piece '))
+            self.count_answer(plain)
             if wanted is not None and any(t != wanted for t in texts):
                 self.difference(name, d, ['the list'] + names, [wanted] + texts)
             elif any(t != texts[0] for t in texts):
                 self.difference(name, d, names, texts)
-            elif self.level >= 103 and not sheets.tags_hold(texts[0]):
+            elif self.level >= 103 and not sheets.reports_hold(plain):
+                self.difference(name + ': reports', d, names, texts)
+            elif self.level >= 103 and not sheets.tags_hold(plain):
                 self.difference(name + ': tags', d, names, texts)
 
     def count_answer(self, text):
         self.count += 1
         self.seen[key(text)] += 1
+        self.lines += len(sheets.reports(text)) if key(text).startswith('chart ') else 0
         self.groups += self.level >= 101 and sheets.has_group(text)
         tags = sheets.tags(text)
         self.tags = [x + y for x, y in zip(self.tags, tags)]
@@ -154,7 +163,8 @@ class Comparison:
             parts = ['%d %s (%d sheets)' % (n, t, s) for t, n, s in zip(sheets.TAGS, self.tags, self.tagged)]
             print('settled by %s; all three in %d sheets' % (', '.join(parts), self.all_tags))
         grouped = ', %d with a group' % self.groups if self.level >= 101 else ''
-        print('%d sheets%s, %d different' % (self.count, grouped, self.different))
+        lines = ', %d lines of charts searched' % self.lines if self.level >= 105 else ''
+        print('%d sheets%s%s, %d different' % (self.count, grouped, lines, self.different))
 
 
 def replay(folder, level):
@@ -176,7 +186,7 @@ def generated(seed, count, with_drawn, level):
 
 
 def main(args):
-    flags = {'--pieces': False, '--no-drawn': False, '--level': '104', '--replay': None, '--save': '.'}
+    flags = {'--pieces': False, '--no-drawn': False, '--level': '105', '--replay': None, '--save': '.'}
     while args and args[0] in flags:
         flag = args.pop(0)
         flags[flag] = args.pop(0) if flag in ('--level', '--replay', '--save') else True

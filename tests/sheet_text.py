@@ -14,6 +14,7 @@ A text has one item to a line. Those of a sheet that can be walked:
   poles X Y Z ..
   weights X ..      where there are any
   datum N           where it isn't 1
+  range LO HI       of a line of a chart
   question S LO HI LO HI GAP
   end
 
@@ -67,7 +68,7 @@ PARTS = {'knots': (2, 1, 8, float_text, float_bytes),
          'poles': (4, 3, 8, float_text, float_bytes),
          'weights': (5, 1, 8, float_text, float_bytes)}
 LINES = {'line': 1, 'ring': 8}
-QUESTION, END, DATUM = 6, 7, 9
+QUESTION, END, DATUM, RANGE = 6, 7, 9, 11
 
 
 # ---- from bytes to items ------------------------------------------------------
@@ -119,6 +120,13 @@ class Reader:
         self.at += 4
         return items if datum == 1 else items + [['datum', str(datum)]]
 
+    def range(self):
+        if self.head() != (RANGE, 0):
+            return None
+        self.at += 4
+        values = self.values(2, 8, float_text)
+        return None if values is None else [['range'] + values]
+
     def question(self):
         kind, splits = self.head()
         if kind != QUESTION:
@@ -136,7 +144,7 @@ class Reader:
     def whole(self):
         """The items of what can be walked next."""
         start = self.at
-        for read in (self.line, self.question, self.end):
+        for read in (self.line, self.range, self.question, self.end):
             items = read()
             if items is not None:
                 return items
@@ -180,6 +188,8 @@ def item_bytes(name, values, length):
         return head(kind, len(values) // each) + b''.join(data(v) for v in values)
     if name == 'datum':
         return head(DATUM, int(values[0]))
+    if name == 'range':
+        return head(RANGE, 0) + b''.join(float_bytes(v) for v in values)
     if name == 'question':
         return head(QUESTION, int(values[0])) + b''.join(float_bytes(v) for v in values[1:])
     if name == 'end':

@@ -13,10 +13,10 @@
   sheets.py --level L ...           --list, --many and --replay at a level of
                                     document 02: 1 (document 01, the default),
                                     100 (closed lines), 101 (stretch marks),
-                                    103 (settled by box, plane or line) or 104
-                                    (data). --list and --replay have that
-                                    level's own sheets, --many those of all
-                                    levels up to it
+                                    103 (settled by box, plane or line), 104
+                                    (data) or 105 (charts). --list and --replay
+                                    have that level's own sheets, --many those
+                                    of all levels up to it
 
 All are written in the form of M-104, with a datum on each line; in_form(data, L)
 is a sheet in the form of an earlier level.
@@ -27,6 +27,7 @@ From another script:
   b = line(2, [0, 1, 2], [3, 1, 3], poles, weights)
   c = ring(1, [0, 1, 2, 3], [1, 1, 1, 1], [(0, 0, 0), (4, 0, 0), (0, 3, 0)])
   data = sheet(a, b, S=256, ranges=[(0, 1), (0, 2)], gap=0.5)
+  data = chart([a, b, c], S=8, gap=0.5)     # a is the track
 
 Ranges that are not given are the bounds of the lines, of a closed one a turn.
 """
@@ -131,10 +132,32 @@ def question(S, ranges, gap):
     return head(6, S) + floats([ranges[0][0], ranges[0][1], ranges[1][0], ranges[1][1], gap])
 
 
+def asked(lines, ranges):
+    """The ranges, the line's bounds where none is given."""
+    return [l.bounds() if r is None else r for l, r in zip(lines, ranges or [None] * len(lines))]
+
+
 def sheet(a, b, S=256, ranges=None, gap=0.0):
-    ranges = [None, None] if ranges is None else ranges
-    ranges = [r if r is not None else l.bounds() for r, l in zip(ranges, (a, b))]
+    ranges = asked((a, b), ranges)
     return a.data() + b.data() + question(S, ranges, gap) + head(7, 0)
+
+
+def chart_line(l, r):
+    """A line of a chart with its range."""
+    return l.data() + head(11, 0) + floats(r)
+
+
+def chart(lines, S=256, ranges=None, gap=0.0, unread=(0.0, 0.0)):
+    """The first line is the track; kind 6 has its range and an unread one."""
+    ranges = asked(lines, ranges)
+    parts = [chart_line(l, r) for l, r in zip(lines[1:], ranges[1:])]
+    return lines[0].data() + b''.join(parts) + question(S, [ranges[0], unread], gap) + head(7, 0)
+
+
+def pair_sheets(lines, S=256, ranges=None, gap=0.0):
+    """The sheet of the track and each line of a chart."""
+    ranges = asked(lines, ranges)
+    return [sheet(lines[0], l, S, [ranges[0], r], gap) for l, r in zip(lines[1:], ranges[1:])]
 
 
 def in_form(data, level):
@@ -175,6 +198,21 @@ def at_level(answer, level):
     return unmarked(answer) if level < 101 else answer
 
 
+def reports(answer):
+    """The reports of an answer: one of a pair, one a line of a chart, none of a refusal."""
+    return re.findall(r'(?m)^(?:complete|budget|unseparated) .*\n(?:region .*\n)*', answer)
+
+
+def reports_hold(answer):
+    """What an answer is made of: a refusal, one report, or reports and a last line that says whether all are complete."""
+    parts = reports(answer)
+    complete = all(r.startswith('complete ') for r in parts)
+    last = 'chart %s\n' % ('complete' if complete else 'incomplete')
+    if not parts:
+        return re.fullmatch(r'refused \d+ \d+\n', answer) is not None
+    return answer == ''.join(parts) + last or len(parts) == 1 and answer == parts[0]
+
+
 def counts(answer):
     """The counts of an answer's first line by their names; none of a refusal."""
     fields = [f.split('=') for f in answer.split('\n', 1)[0].split(' ')[1:]]
@@ -185,27 +223,27 @@ TAGS = ('box', 'plane', 'line')
 
 
 def tags(answer):
-    """How many nodes were settled by box, by plane and by line."""
-    c = counts(answer)
-    return tuple(c.get(t, 0) for t in TAGS)
+    """How many nodes were settled by box, by plane and by line, in all reports."""
+    each = [counts(r) for r in reports(answer)]
+    return tuple(sum(c.get(t, 0) for c in each) for t in TAGS)
 
 
 def tags_hold(answer):
-    """What holds of the tags in every answer: they sum to settled, and a node settled by box is one of the two halves
+    """What holds of the tags in every report: they sum to settled, and a node settled by box is one of the two halves
     of a split, since the boxes of a pushed pair aren't apart."""
-    c = counts(answer)
-    return not c or (all(t in c for t in TAGS) and sum(tags(answer)) == c['settled'] and c['box'] <= 2 * c['splits'])
+    each = [counts(r) for r in reports(answer)]
+    return all(all(t in c for t in TAGS) and sum(c[t] for t in TAGS) == c['settled'] and c['box'] <= 2 * c['splits'] for c in each)
 
 
 def marks(answer):
-    """The marks of an answer's regions, in the order of the list; -1 for a line that has none."""
+    """The marks of a report's regions, in the order of the list; -1 for a line that has none."""
     fields = [l.split(' ') for l in answer.split('\n') if l.startswith('region ')]
     return [int(f[11]) if len(f) == 12 and f[11].isdigit() else -1 for f in fields]
 
 
 def has_group(answer):
-    """Whether a mark isn't its region's own place."""
-    return any(m not in (i, -1) for i, m in enumerate(marks(answer)))
+    """Whether in a report a mark isn't its region's own place."""
+    return any(m not in (i, -1) for r in reports(answer) for i, m in enumerate(marks(r)))
 
 
 def example():
@@ -213,17 +251,17 @@ def example():
     return sheet(UNIT, UNIT, S=0)
 
 
+PLAN = clamped(3, [
+    (5.0, 12.0, -12.0), (41.5, 18.25, -12.0), (78.0, 21.5, -12.5), (112.75, 14.0, -13.0), (149.0, 3.5, -13.25), (185.5, -2.25, -13.5),
+    (221.0, 1.75, -13.75), (258.25, 10.5, -14.0), (296.0, 16.0, -14.0), (333.5, 13.25, -13.5), (369.75, 6.0, -13.0), (403.0, 2.5, -12.75)])
+
+
 def track():
     """A planned track of some 400 m at 12 to 14 m depth that passes the head of
     an outfall; gap 5 m. Metres; z is up."""
-    poles = [(5.0, 12.0, -12.0), (41.5, 18.25, -12.0), (78.0, 21.5, -12.5),
-             (112.75, 14.0, -13.0), (149.0, 3.5, -13.25), (185.5, -2.25, -13.5),
-             (221.0, 1.75, -13.75), (258.25, 10.5, -14.0), (296.0, 16.0, -14.0),
-             (333.5, 13.25, -13.5), (369.75, 6.0, -13.0), (403.0, 2.5, -12.75)]
-    plan = clamped(3, poles)
     outfall = clamped(2, [(214.0, 88.0, -9.5), (216.5, 60.0, -11.0), (219.0, 38.0, -12.5),
                           (221.0, 19.0, -13.5), (222.5, 6.5, -14.25)])
-    return sheet(plan, outfall, S=64, gap=5.0)
+    return sheet(PLAN, outfall, S=64, gap=5.0)
 
 
 EXAMPLES = [('example', example),
@@ -239,6 +277,18 @@ def basin_passed():
 
 
 CLOSED_EXAMPLES = [('basin', basin_passed)]
+
+
+def chart_passed():
+    """The track of track() and three lines of its chart: an outfall that ends just over 5 m beside it, a cable that it crosses, the toe of a quay far off;
+    gap 5 m (document 02, M-105)."""
+    outfall = clamped(2, [(214.0, 88.0, -9.5), (216.5, 60.0, -11.0), (219.0, 38.0, -12.5), (221.0, 19.0, -13.5), (223.0, 8.0, -13.75)])
+    cable = clamped(2, [(96.0, -60.0, -15.0), (101.5, -20.0, -15.5), (108.0, 24.0, -15.25), (121.0, 70.0, -14.5)])
+    toe = segment((-40.0, 240.0, -11.0), (420.0, 236.0, -11.0))
+    return chart([PLAN, outfall, cable, toe], S=64, gap=5.0)
+
+
+CHART_EXAMPLES = [('chart', chart_passed)]
 
 
 # ---- drawn sheets -------------------------------------------------------------
@@ -1367,6 +1417,217 @@ def dated_drawn():
         yield from part()
 
 
+# ---- drawn charts (document 02, M-105) ----------------------------------------------
+
+RAIL = segment((-1, 0.5, 0), (14, 0.5, 0))
+GATE = segment((1, -2, 0), (3, 2.5, 0))  # crosses RAIL
+BESIDE = bezier([(0, 1.5, 0), (4, 0, 0), (8, 1.5, 0)])  # the boxes meet at a gap of 0.25, the lines don't
+OFF = segment((0, 900, 0), (9, 900, 0))  # without pairs
+LAID = segment((2, 0.5, 0), (5, 0.5, 0))  # on RAIL: given up
+BOLLARD = bezier([(6, 0, 0), (6, 1, 0), (6, 2, 0)])
+AREA = [RAIL, GATE, OFF, BESIDE, LAID]
+HOLLOW = line(1, [], [], [])
+BAD_RANGE, NO_MIDDLE = (0.5, 0.5), (0.5, after(0.5))
+
+
+def sized(name, good, counts):
+    """Charts of so many lines: none of which is searched, all of which are complete, or the last of which isn't."""
+    for n in counts:
+        if name == 'empty':
+            yield 'chart-empty-%d-%s' % (n, 'track' if good else 'all'), chart([RAIL if good else HOLLOW] + [HOLLOW] * n)
+        else:
+            yield 'chart-%s-%d' % (name, n), chart([RAIL] + [OFF] * (n - 1) + [OFF if good else LAID], S=1)
+
+
+def chart_sizes():
+    """0 to 407 lines: of empty parts, of which 407 fill a sheet, and such as are searched."""
+    yield from sized('empty', False, (0, 1, 2, 64, 65, 320, 407))
+    yield from sized('empty', True, (0, 1, 64, 65))
+    yield from sized('clear', True, (1, 2, 3, 64, 66))
+    yield from sized('last', False, (1, 2, 3, 63, 64, 65))
+    for n in (1, 2, 64):
+        yield 'chart-first-%d' % n, chart([RAIL, GATE] + [OFF] * (n - 1), S=0)
+    for number in (4, 23, 15, 18, 19):
+        yield 'chart-64-no%d' % number, faulty([RAIL] + [OFF] * 64, [(number, 65)])
+    yield 'chart-64-no14-place-64', faulty([RAIL] + [OFF] * 64, [(14, 64), (14, 65)])
+    yield 'chart-65-no15', faulty([RAIL] + [OFF] * 65, [(15, 66)])
+    # too many lines, and 2 or 3 in the last one or after it
+    many = RAIL.data() + chart_line(HOLLOW, (0, 1)) * 65
+    asks, end = question(0, [(0, 1), (0, 0)], 0.0), head(7, 0)
+    for name, tail in (('line-kind', head(1, 1) + head(3, 0) + asks + end), ('no-range', HOLLOW.data() + asks + end), ('stops', b''), ('no-end', asks),
+                       ('words', asks + end + end), ('end-count', asks + head(7, 1)), ('range-count', HOLLOW.data() + head(11, 1) + floats((0, 1)) + asks + end)):
+        yield 'chart-many-' + name, many + tail
+        yield 'chart-none-' + name, RAIL.data() + tail
+
+
+def chart_longer():
+    """More of these."""
+    yield from sized('empty', False, (3, 63, 66, 255, 256, 257, 319, 321, 406, 408))
+    yield from sized('empty', True, (2, 63, 66, 256, 320, 404, 405, 406))
+    yield from sized('clear', True, (62, 63, 65, 128))
+    yield from sized('last', False, (62, 66, 128))
+
+
+def faulty(lines, faults, S=1, gap=0.25):
+    """The chart of these lines with faults, each a number and a place, the track's being 1."""
+    lines, ranges = [l.copy() for l in lines], [None] * len(lines)
+    for number, place in faults:
+        k = place - 1
+        if number in (14, 13, 12, 10):
+            spoil_into(lines[k], number, Rng(number))
+        elif number == 22:
+            lines[k] = basin(2, 2, 3)
+            lines[k].mults[0] = 1
+        elif number <= 11:
+            lines[k], ranges[k] = spoilt(number, Rng(number)), (0, 1)
+        elif number == 23:
+            lines[k].datum = 2
+        elif number == 15:
+            ranges[k] = BAD_RANGE
+        elif number == 16:
+            gap = -1.0
+        elif number == 17:
+            S = 257
+        elif number == 18:
+            ranges[k] = NO_MIDDLE
+        elif number == 19 and place > 1:
+            lines[k] = comb(13)
+        elif number == 19:
+            lines[k] = clamped(25, [(i, 0.5, 0) for i in range(104)])
+    return chart(lines, S, ranges, gap)
+
+
+def chart_faults():
+    """Each number at the track, the first, a middle and the last line; the track and lines of other data."""
+    for number in list(range(4, 15)) + [22, 23, 15, 18, 19]:
+        for place in (1, 2, 3, 5):
+            yield 'chart-no%d-%d' % (number, place), faulty(AREA, [(number, place)])
+    for number in (16, 17):
+        yield 'chart-no%d' % number, faulty(AREA, [(number, 1)])
+    for data in ((0,) * 5, (9999,) * 5, (10000,) * 5, (1, 1, 1, 1, 0), (1, 1, 2, 1, 1), (1, 2, 2, 2, 2), (1, 2, 1, 2, 1), (7, 7, 7, 8, 9), (7, 7, 65543, 7, 7),
+                 (10000, 1, 1, 1, 1), (2, 2, 2, 2, 1 << 27 | 2)):
+        yield 'chart-data-%s' % '-'.join('%d' % n for n in data), dated(chart(AREA, S=1, gap=0.25), data)
+    # a line's 14 before a datum, also the track's that is no datum; a datum before the next line's 4
+    for name, data in (('none', (0,) * 5), ('other', (1, 2, 2, 2, 2)), ('last', (1, 1, 1, 1, 2))):
+        for number, place in ((14, 2), (14, 5), (4, 3)):
+            yield 'chart-data-%s-no%d-%d' % (name, number, place), dated(faulty(AREA, [(number, place)]), data)
+    # of the track alone where there is no line, or too many: 24 is met first
+    for number in (4, 14):
+        yield 'chart-none-no%d' % number, faulty(AREA[:1], [(number, 1)])
+        yield 'chart-none-many-no%d' % number, faulty([RAIL] + [HOLLOW] * 65, [(number, 1)])
+
+
+def chart_orders():
+    """Two faults at once: the order of all tests."""
+    faults = [(n, p) for n in (14, 23, 15, 18, 19) for p in (1, 2, 5)] + [(16, 0), (17, 0), (4, 2), (4, 5), (22, 3)]
+    faults.remove((19, 1))
+    for i, one in enumerate(faults):
+        for two in faults[:i]:
+            ranges, line = {one[0], two[0]} == {15, 18}, {one[0], two[0]} & {4, 19, 22}
+            if one[1] != two[1] or one[1] == 0 or not ranges and not line:
+                yield 'chart-no%d-%d-no%d-%d' % (two + one), faulty(AREA, [one, two])
+    for other in ((15, 5), (17, 0), (18, 5), (19, 5)):
+        yield 'chart-no19-1-no%d-%d' % other, faulty(AREA, [(19, 1), other])
+    # line 2 has no middle, line 3 an empty range
+    yield 'chart-no18-2-no15-3', chart([A, CROSSING, PARALLEL], S=1, ranges=[None, (0.5, after(0.5)), (0.5, 0.5)])
+    # the same where line 2 could be searched: 15 of the last line before anything is printed
+    yield 'chart-no15-last', chart([A, CROSSING, PARALLEL], S=1, ranges=[None, None, (0.5, 0.5)])
+    yield 'chart-no19-last', chart([RAIL, GATE, OFF, comb(13)], S=1)
+    yield 'chart-no19-all', chart([RAIL, comb(13), comb(13)], S=0)
+    yield 'chart-no19-regions', chart([RAIL, GATE, comb(12)], S=68)
+    yield 'chart-no19-regions-first', chart([RAIL, comb(12), GATE], S=68)
+
+
+def chart_unread():
+    """Kind 6's second range is anything."""
+    for i, r in enumerate([(0, 0), (NAN, NAN), (1, 0), (NAN, 0), (0, INF), (-INF, INF), (0.25, 0.5), (0.5, after(0.5)), (-0.0, 0.0), (1e308, -1e308)]):
+        yield 'chart-unread-%d' % i, chart(AREA, S=1, gap=0.25, unread=r)
+        yield 'chart-unread-%d-none' % i, chart(AREA[:1], S=1, gap=0.25, unread=r)
+    # the track's range is kind 6's first, a line's its own
+    halves = [(0.0, 0.5), (0.5, 1.0), (0.25, 0.75)]
+    for i, r in enumerate(halves):
+        yield 'chart-track-range-%d' % i, chart(AREA, S=1, ranges=[r] + [None] * 4, gap=0.25, unread=halves[i - 1])
+        yield 'chart-line-range-%d' % i, chart(AREA, S=1, ranges=[None] + [halves[(i + k) % 3] for k in range(4)], gap=0.25)
+    yield 'chart-one-line-three-ranges', chart([RAIL] + [GATE] * 3, S=1, ranges=[None] + halves)
+
+
+def chart_words():
+    """The words of a chart: kind 11 missing, doubled, elsewhere, with a count, cut off; each kind after the track, after a line and after a range."""
+    t, a, q, end = UNIT.data(), UNIT.data(), question(0, [(0, 1), (0, 0)], 0.0), head(7, 0)
+    r = head(11, 0) + floats((0, 1))
+    whole = t + a + r + a + r + q + end
+    for at in range(0, len(whole), 4):
+        if at >= len(t) - 4:
+            yield 'chart-cut-%d' % at, whole[:at]
+    for kind in range(16):
+        for count in (0, 1):
+            yield 'chart-kind-%d-%d-after-track' % (kind, count), t + head(kind, count) + q[4:] + end
+            yield 'chart-kind-%d-%d-after-second' % (kind, count), t + a + head(kind, count) + r[4:] + q + end
+            yield 'chart-kind-%d-%d-after-range' % (kind, count), t + a + r + head(kind, count) + a[4:] + r + q + end
+            yield 'chart-kind-%d-%d-after-third' % (kind, count), t + a + r + a + head(kind, count) + r[4:] + q + end
+        yield 'chart-kind-%d-in-line' % kind, t + head(kind, 1) + a[4:] + r + q + end
+        yield 'chart-kind-%d-end' % kind, t + a + r + q + head(kind, 0)
+    parts = {'no-line': t + q + end, 'range-after-track': t + r + q + end, 'range-after-track-and-lines': t + r + a + r + q + end,
+             'third-without': t + a + r + a + q + end, 'third-without-of-four': t + a + r + a + a + r + q + end, 'second-without': t + a + a + r + q + end,
+             'pair-and-third': t + a + a + q + end, 'range-twice': t + a + r + r + q + end, 'range-twice-third': t + a + r + a + r + r + q + end,
+             'range-before-datum': t + a[:-4] + r + a[-4:] + q + end, 'range-before-datum-too': t + a[:-4] + r + a[-4:] + r + q + end,
+             'range-after-question': t + a + q + r + end, 'range-after-end': t + a + r + q + end + r, 'line-after-question': t + a + r + q + a + r + end,
+             'line-after-end': t + a + r + q + end + a + r, 'datum-after-range': t + a[:-4] + r + a[-4:] + q + end, 'no-datum': t + a[:-4] + r + q + end,
+             'weights-after-range': t + a + r + head(5, 2) + floats((1, 1)) + q + end, 'one-float': t + a + head(11, 0) + floats((0,)) + q + end,
+             'three-floats': t + a + r + floats((0,)) + q + end, 'range-count-1': t + a + head(11, 1) + r[4:] + q + end, 'range-count-2': t + a + head(11, 2) + r[4:] + q + end,
+             'range-count-huge': t + a + head(11, MAX_COUNT) + r[4:] + q + end, 'range-count-1-third': t + a + r + a + head(11, 1) + r[4:] + q + end,
+             'range-count-1-stops': t + a + head(11, 1), 'range-count-1-cut': t + a + head(11, 1) + r[4:12], 'range-stops': t + a + head(11, 0), 'range-cut': t + a + r[:12],
+             'question-missing': t + a + r + end, 'end-missing': t + a + r + q, 'end-count': t + a + r + q + head(7, 1), 'words-after-end': t + a + r + q + end + end,
+             'no-line-end-missing': t + q, 'no-line-words-after-end': t + q + end + end, 'no-line-end-count': t + q + head(7, 1), 'no-line-question-cut': t + q[:-4],
+             'no-line-S-huge': t + head(6, MAX_COUNT) + q[4:] + end, 'S-huge': t + a + r + head(6, MAX_COUNT) + q[4:] + end}
+    for name, data in parts.items():
+        yield 'chart-words-' + name, data
+    for name, l in (('closed', TRIANGLE), ('weights', WEIGHED)):
+        x, y = l.data(), head(11, 0) + floats(l.bounds())
+        yield 'chart-words-%s-second' % name, t + x + y + a + r + q + end
+        yield 'chart-words-%s-third' % name, t + a + r + x + y + q + end
+        yield 'chart-words-%s-both' % name, t + x + y + x + y + q + end
+        yield 'chart-words-%s-track' % name, x + a + r + q + end
+        yield 'chart-words-%s-track-alone' % name, x + q + end
+        yield 'chart-words-%s-third-without' % name, t + a + r + x + q + end
+
+
+def chart_reports():
+    """Charts whose lines are complete, out of allowance and given up, without pairs, with 12 and with 13, in every order."""
+    ones = {'gate': GATE, 'off': OFF, 'beside': BESIDE, 'laid': LAID, 'bollard': BOLLARD, 'comb': comb(12), 'teeth': comb(13), 'weighed': WEIGHED, 'ring': TRIANGLE,
+            'nan': NAN_NET, 'itself': RAIL}
+    for name, l in ones.items():
+        for s in (0, 2, 67):
+            yield 'chart-one-%s-S%d' % (name, s), chart([RAIL, l], S=s, gap=0.25)
+    some = {'c': BESIDE, 'o': OFF, 'b': GATE, 'u': LAID}
+    for order in ('cc', 'oo', 'co', 'oc', 'cb', 'bc', 'cu', 'uc', 'bu', 'ub', 'ou', 'uo', 'ob', 'bo', 'bb', 'uu', 'cou', 'uoc', 'cub', 'buc', 'bcb', 'cbc', 'ccu', 'uccb', 'obuc'):
+        yield 'chart-order-' + order, chart([RAIL] + [some[x] for x in order], S=1, gap=0.25)
+    # as many pairs and regions as one line may have, on every line
+    yield 'chart-full', chart([RAIL] + [comb(12)] * 3, S=67)
+    yield 'chart-full-and-13', chart([RAIL, comb(12), comb(12), comb(13)], S=0)
+    # an allowance for each line
+    for s in (0, 1, 2, 3, 5, 256):
+        yield 'chart-allowance-S%d' % s, chart([A, CROSSING, CROSSING, segment((0, 1, 0), (2, 0, 0))], S=s)
+        yield 'chart-allowance-kept-S%d' % s, chart([A, FAR, CROSSING], S=s)
+    # closed tracks and lines: each report has its marks from 0
+    for s in (0, 3):
+        yield 'chart-closed-track-S%d' % s, chart([SQUARE, DIAGONAL, OPPOSITE, loops('abd'), OFF], S=s, gap=0.01)
+        yield 'chart-closed-lines-S%d' % s, chart([DIAGONAL, SQUARE, TRIANGLE, SQUARE, OFF], S=s, ranges=[None, None, None, (0.5, 4.5), None], gap=0.01)
+        yield 'chart-closed-turns-S%d' % s, chart([SQUARE] + [loops('abd')] * 3, S=s, ranges=[(0.5, 4.5), None, (0, 4.5), (2, 5)])
+        yield 'chart-groups-S%d' % s, chart([SQUARE, loops('abdabd'), loops('ab'), loops('abcabc')], S=s)
+    for i, data in enumerate(pair_sheets(AREA, S=1, gap=0.25)):
+        yield 'chart-pair-%d' % i, data
+    yield 'chart-same', chart([RAIL] * 4, S=0)
+
+
+def charts_drawn():
+    """All drawn charts: (name, bytes)."""
+    for part in (chart_sizes, chart_longer, chart_faults, chart_orders, chart_unread, chart_words, chart_reports):
+        yield from part()
+    for name, make in CHART_EXAMPLES:
+        yield 'example-' + name, make()
+
+
 # ---- random sheets --------------------------------------------------------------
 
 
@@ -2093,6 +2354,152 @@ def kind_datum_word(rng):
 DATED_KINDS = [(kind_data, 60), (kind_datum_word, 40)]
 
 
+def moved_off(rng, l):
+    """The line so far off that it has no pairs with one near the origin."""
+    out = l.copy()
+    d = rng.pick([1e4, -1e4, 1e6])
+    out.poles = in_limits([(x + d, y, z) for x, y, z in out.poles])
+    return out
+
+
+def line_for(rng, track, style):
+    """A line for the track's chart, open or closed."""
+    way = rng.below(8)
+    if way == 0:
+        return turned_over(rng, track)
+    if way == 1:
+        return random_ring(rng, style, 2 + rng.below(2), rng.pick([1, 1, 2, 3]))
+    if way == 2:
+        return moved_off(rng, random_line(rng, 'grid', 1))
+    if way == 3:
+        return segment(track.poles[0], tuple(random_coordinate(rng, style) for _ in range(3)))
+    l = random_line(rng, style, 1 + rng.below(2))
+    return with_zeros(rng, l) if rng.chance(0.1) else l
+
+
+MAX_BYTES = 16384
+
+
+def cut_to_size(lines, ranges):
+    """The track and as many lines as a sheet holds."""
+    while len(lines) > 2 and len(chart(lines, 0, ranges)) > MAX_BYTES:
+        lines, ranges = lines[:-1], ranges[:-1]
+    return lines, ranges
+
+
+def random_chart(rng):
+    """Lines, the track first, S, ranges and gap of a chart that is seldom refused."""
+    style = rng.pick(STYLES)
+    closed = rng.chance(0.2)
+    track = random_ring(rng, style, 2 + rng.below(2), rng.pick([1, 1, 2, 3])) if closed else random_line(rng, style, 1 + rng.below(3))
+    lines = [track] + [line_for(rng, track, style) for _ in range(rng.pick([1, 1, 2, 2, 2, 3, 3, 4, 5, 7]))]
+    lines, ranges = cut_to_size(lines, [ring_range(rng, l) if rng.chance(0.15) else None for l in lines])
+    return lines, rng.pick([0, 0, 1, 1, 2, 3, 5, 20, 60]), ranges, random_gap(rng, style)
+
+
+def kind_chart(rng):
+    return chart(*random_chart(rng))
+
+
+def kind_chart_comb(rng):
+    """Lines with up to 13 pairs, of which an allowance near the limit may be asked."""
+    n = rng.pick([2, 6, 10, 11, 12, 13])
+    y = rng.pick([0.5, 0.25, rng.unit()])
+    track = segment((-1.0, y, 0.0), (n + 1.0, rng.pick([y, 1.0 - y]), 0.0))
+    few = lambda: rng.pick([n, n, n, n - 1, 1, 1 + rng.below(n)])
+    lines = [moved_off(rng, comb(2)) if rng.chance(0.2) else comb(few(), rng.pick([1.0, 2.0])) for _ in range(1 + rng.below(4))]
+    s = rng.pick([0, 0, 1, 3, max(0, min(256, 819 // n - 2 + rng.below(4)))])
+    return chart([track] + lines, s, None, rng.pick([0.0, 0.0, 0.01, 0.1]))
+
+
+def kind_chart_many(rng):
+    """About as many lines as a chart may have, or as a sheet can hold."""
+    if rng.chance(0.3):
+        return chart([rng.pick([HOLLOW, UNIT])] + [HOLLOW] * rng.pick([62, 63, 64, 65, 66, 100, 256, 257, 320, 400, 405, 406, 407, 408]))
+    point = lambda: tuple(random_coordinate(rng, 'fine') * 4 for _ in range(3))
+    lines = [segment(point(), point()) for _ in range(1 + rng.pick([20, 50, 62, 63, 64, 64, 64, 65, 66]))]
+    ranges = [None] * len(lines)
+    if rng.chance(0.3):
+        ranges[rng.below(len(lines))] = rng.pick([BAD_RANGE, NO_MIDDLE, (0.25, 0.5)])
+    if rng.chance(0.2):
+        spoil_into(lines[rng.below(len(lines))], 4 + rng.below(11), rng)
+    if rng.chance(0.1):
+        lines[rng.below(len(lines))].datum = rng.pick([0, 2, 10000])
+    return chart(lines, rng.pick([0, 0, 1, 4]), ranges, rng.pick([0.0, 0.1, 1.0]))
+
+
+def kind_chart_spoilt(rng):
+    """One or more faults of the table, at any place."""
+    lines, s, ranges, gap = random_chart(rng)
+    for _ in range(rng.pick([1, 1, 2, 2, 3])):
+        k, number = rng.below(len(lines)), rng.pick(list(range(4, 15)) + [22, 23, 23, 15, 15, 16, 17, 18, 18, 19])
+        l = lines[k] = lines[k].copy()
+        if number == 22:
+            lines[k] = random_ring(rng, 'grid', 2)
+            lines[k].mults[0] += 1
+        elif number in (11, 5, 6):
+            lines[k] = spoilt(number, rng)
+        elif number <= 14:
+            spoil_into(l, number, rng)
+        elif number == 23:
+            l.datum = rng.pick([0, 2, 9999, 10000, 65537])
+        elif number == 15:
+            ranges[k] = rng.pick([(NAN, 1), (0, INF), BAD_RANGE, (1, 0), (-1e9, 1e9)])
+        elif number == 16:
+            gap = rng.pick(BAD_FLOATS + [-1.0, 2e7])
+        elif number == 17:
+            s = 257 + rng.below(5000)
+        elif number == 18:
+            lo = l.bounds()[0]
+            ranges[k] = (lo, beside(lo, 1))
+        else:
+            lines[k] = rng.pick([comb(13), polyline([(i, 0, 0) for i in range(80)])])
+    return chart(lines, s, ranges, gap, rng.pick([(0.0, 0.0), (NAN, NAN), (1.0, 0.0), (rng.bits(), rng.bits())]))
+
+
+def kind_chart_data(rng):
+    """Charts with other data than 1."""
+    lines, s, ranges, gap = random_chart(rng)
+    datum, other = random_data(rng)
+    for l in lines:
+        l.datum = datum
+    if rng.chance(0.5):
+        lines[rng.below(len(lines))].datum = other
+    return chart([l.copy() for l in lines], s, ranges, gap)
+
+
+def kind_chart_words(rng):
+    """A chart with a word dropped, doubled, moved or changed, often one of a range; or cut short."""
+    data = rng.pick([kind_chart, kind_chart, kind_chart_comb, kind_chart_spoilt])(rng)
+    parts = [(item[0], item_bytes(item[0], item[1:], 0)) for item in spelled(items_of(data)) if item[0] != 'zeros']
+    names = rng.pick([('range',), ('range', 'datum'), ('line', 'ring'), ('question',), ('end',)])
+    at = rng.pick([i for i, part in enumerate(parts) if part[0] in names] or [0])
+    name, word = parts[at]
+    way = rng.below(8)
+    if way == 0:
+        parts.pop(at)
+    elif way == 1:
+        parts.insert(at, parts[at])
+    elif way == 2:
+        parts.insert(rng.below(len(parts)), parts.pop(at))
+    elif way == 3:
+        parts[at] = (name, head(rng.below(16), rng.pick([0, 0, 1, 2, rng.below(1 << 28)])) + word[4:])
+    elif way == 4:
+        parts[at] = (name, words([struct.unpack('<I', word[:4])[0] ^ 1 << rng.below(32)]) + word[4:])
+    elif way == 5:
+        parts = parts[:at] + [(name, word[:rng.below(len(word) + 1)])]
+    elif way == 6:  # without its lines, or with a pair's
+        first = next((i for i, part in enumerate(parts) if part[0] == 'datum'), 0)
+        last = next((i for i, part in enumerate(parts) if part[0] == 'question'), len(parts))
+        parts = parts[:first + 1] + parts[last:]
+    else:
+        parts = [part for i, part in enumerate(parts) if part[0] != 'range' or rng.chance(0.5)]
+    return b''.join(part[1] for part in parts)
+
+
+CHART_KINDS = [(kind_chart, 40), (kind_chart_spoilt, 22), (kind_chart_words, 14), (kind_chart_comb, 12), (kind_chart_many, 6), (kind_chart_data, 6)]
+
+
 def random_sheet(rng, kinds):
     """(kind, bytes) of one random sheet."""
     at = rng.below(sum(n for _, n in kinds))
@@ -2105,7 +2512,8 @@ def random_sheet(rng, kinds):
 def random_sheets(seed, count, level=1):
     """`count` random sheets; sheet i depends on the seed, i and the level alone. From level 100 on
     those at 0, 3, 6, .. have closed lines, from 101 on those at 1, 4, 7, .. turns, from 103 on those at
-    2, 8, 14, .. lines that each test clears, from 104 on those at 5, 17, 29, .. data; the others stay."""
+    2, 8, 14, .. lines that each test clears, from 104 on those at 5, 17, 29, .. data, from 105 on those at
+    4, 9, 16, 21, .. are charts; the others stay."""
     new = {}
     if level >= 100:
         new.update({i: CLOSED_KINDS for i in (0, 3, 6, 9)})
@@ -2115,6 +2523,8 @@ def random_sheets(seed, count, level=1):
         new.update({i: TAGGED_KINDS for i in (2, 8)})
     if level >= 104:
         new[5] = DATED_KINDS
+    if level >= 105:
+        new.update({i: CHART_KINDS for i in (4, 9)})
     for i in range(count):
         yield random_sheet(Rng(seed * 1000003 + i), new.get(i % 12, KINDS))
 
@@ -2124,7 +2534,7 @@ def random_sheets(seed, count, level=1):
 
 def write_examples(folder):
     os.makedirs(folder, exist_ok=True)
-    for name, make in EXAMPLES + CLOSED_EXAMPLES:
+    for name, make in EXAMPLES + CLOSED_EXAMPLES + CHART_EXAMPLES:
         with open(os.path.join(folder, name + '.sheet'), 'wb') as f:
             f.write(make())
 
@@ -2177,6 +2587,10 @@ TAGGED_GROUPS = [(one_test, 1), (two_tests, 1), (three_tags, 1), (never_halved, 
 
 DATED_SEED, DATED_TRIED, DATED_BYTES, DATED_TEXT = 104, 12000, 600, 800
 DATED_GROUPS = [(data_pairs, 1), (data_faults, 1), (data_words, 1)]
+
+
+CHART_SEED, CHART_TRIED, CHART_BYTES, CHART_TEXT = 105, 12000, 640, 1600
+CHART_GROUPS = [(chart_sizes, 1), (chart_faults, 1), (chart_orders, 1), (chart_unread, 1), (chart_words, 1), (chart_reports, 1)]
 
 
 def thinned(program, groups):
@@ -2242,6 +2656,28 @@ def dated_replay_sheets(program):
             yield data, answer
 
 
+def chart_bucket(kind, answer):
+    """The bucket with the words of the first reports and how many there are."""
+    if answer.startswith('refused '):
+        number, place = answer.split()[1:]
+        return (number, min(int(place), 3)), 1
+    return (kind, tuple(r[0] for r in reports(answer)[:3]), min(len(reports(answer)), 5), has_group(answer)), 1
+
+
+def chart_replay_sheets(program):
+    """(bytes, answer) of the replay list with charts: the drawn sheets, then random ones, one of each bucket."""
+    yield from thinned(program, CHART_GROUPS)
+    taken = set()
+    for i, (kind, data) in enumerate(random_sheets(CHART_SEED, CHART_TRIED, 105)):
+        if i % 12 not in (4, 9) or len(data) > CHART_BYTES:
+            continue
+        answer = answer_of(program, data)
+        at, _ = chart_bucket(kind, answer)
+        if at not in taken and len(answer) <= CHART_TEXT:
+            taken.add(at)
+            yield data, answer
+
+
 def closed_replay_sheets(program):
     """(bytes, answer) of the replay list with closed lines: drawn sheets, thinned
     by group, then random ones, a few of each bucket."""
@@ -2295,8 +2731,9 @@ def write_answers(folder, answers):
     print('%d sheets' % len(answers))
 
 
-DRAWN = {1: drawn, 100: closed_drawn, 101: marked_drawn, 103: tagged_drawn, 104: dated_drawn}
-REPLAYS = {1: replay_sheets, 100: closed_replay_sheets, 101: marked_replay_sheets, 103: tagged_replay_sheets, 104: dated_replay_sheets}
+DRAWN = {1: drawn, 100: closed_drawn, 101: marked_drawn, 103: tagged_drawn, 104: dated_drawn, 105: charts_drawn}
+REPLAYS = {1: replay_sheets, 100: closed_replay_sheets, 101: marked_replay_sheets, 103: tagged_replay_sheets, 104: dated_replay_sheets,
+           105: chart_replay_sheets}
 
 
 def drawn_up_to(level):

@@ -13,11 +13,11 @@ for path in sorted(ROOT.glob("tests/answers*/sheets.txt")):
     count += len(listed)
     if sheet_text.file_text(listed) != path.read_text():
         bad.append(f"{path} is not the text of its sheets")
-for name, data in [*sheets.drawn_up_to(104), *sheets.random_sheets(1, 3000, 104)]:
+for name, data in [*sheets.drawn_up_to(105), *sheets.random_sheets(1, 3000, 105)]:
     count += 1
     if sheet_text.sheet_from(sheet_text.text_of(data)) != data:
         bad.append(f"{name}: other bytes come back from its text")
-for name, make in sheets.EXAMPLES + sheets.CLOSED_EXAMPLES:
+for name, make in sheets.EXAMPLES + sheets.CLOSED_EXAMPLES + sheets.CHART_EXAMPLES:
     if (ROOT / f"examples/{name}.sheet").read_bytes() != make():
         bad.append(f"examples/{name}.sheet is not what tests/sheets.py makes")
 if (ROOT / "crates/clearance/stdin").read_bytes() != sheets.example():

@@ -9,6 +9,7 @@
 #include "lovgurshem.h"
 #include <inttypes.h>
 #include <stdio.h>
+#include <stdlib.h>
 #include <string.h>
 
 #define COUNT(a) (sizeof (a) / sizeof *(a))
@@ -30,32 +31,59 @@ static const double outfall_coords[] = {
 static const uint32_t datum = 1; /* both lines are held in one grid */
 static const double gap = 5.0;
 
-/* What the search needs: P is at most 9 x 3 pairs of pieces, S is 64. */
-enum { PIECES1 = 9, PIECES2 = 3, PAIRS = PIECES1 * PIECES2, NODES = PAIRS + 64, SPLITS = 64, WIDTH1 = 4, WIDTH2 = 3 };
+/* The pieces' nets, and one word, tell P; the other slices are lent for it. */
+enum { PIECES1 = 9, PIECES2 = 3, SPLITS = 64, WIDTH1 = 4, WIDTH2 = 3 };
 static double pieces1[4 * WIDTH1 * PIECES1], pieces2[4 * WIDTH2 * PIECES2];
-static double nets1[4 * WIDTH1 * NODES], nets2[4 * WIDTH2 * NODES], ranges[4 * NODES];
-static double raw[10 * PAIRS * (SPLITS + 1)], report[10 * PAIRS * (SPLITS + 1)];
-static uint32_t marks[PAIRS * (SPLITS + 1)];
-static uint8_t depths[NODES];
-static uint64_t state[LOVGURSHEM_STATE], counts[LOVGURSHEM_COUNTS];
+static uint64_t pairs[1], state[LOVGURSHEM_STATE], counts[LOVGURSHEM_COUNTS];
+static size_t nodes, regions; /* P + 64, and P * (S + 1) */
+static double *nets1, *nets2, *ranges, *raw, *report;
+static uint32_t *marks;
+static uint8_t *depths;
+
+#define NETS1 nets1, 4 * WIDTH1 * nodes
+#define NETS2 nets2, 4 * WIDTH2 * nodes
+#define RANGES ranges, 4 * nodes
+#define DEPTHS depths, nodes
+#define RAW raw, 10 * regions
+#define REPORT report, 10 * regions
+#define MARKS marks, regions
+
+/* The question and the lines, as both acts of an opening take them. */
+static const double none[1]; /* weights: none, so each is 1 */
+#define ASKED 0.0, 9.0, 0.0, 3.0, gap, SPLITS, \
+    0, 3, SLICE(track_knots), SLICE(track_mults), SLICE(track_coords), none, 0, datum, \
+    0, 2, SLICE(outfall_knots), SLICE(outfall_mults), SLICE(outfall_coords), none, 0, datum
+
+/* Whether there is memory for this P. */
+static int lend(uint64_t p)
+{
+    nodes = p + 64;
+    regions = p * (SPLITS + 1);
+    nets1 = calloc(4 * WIDTH1 * nodes, sizeof *nets1);
+    nets2 = calloc(4 * WIDTH2 * nodes, sizeof *nets2);
+    ranges = calloc(4 * nodes, sizeof *ranges);
+    depths = calloc(nodes, sizeof *depths);
+    raw = calloc(10 * regions + 1, sizeof *raw); /* a pointer isn't NULL, also where P is 0 */
+    report = calloc(10 * regions + 1, sizeof *report);
+    marks = calloc(regions + 1, sizeof *marks);
+    return nets1 && nets2 && ranges && depths && raw && report && marks;
+}
 
 static uint32_t open_search(void)
 {
-    static const double none[1]; /* weights: none, so each is 1 */
-    return lovgurshem_open(0.0, 9.0, 0.0, 3.0, gap, SPLITS,
-        0, 3, SLICE(track_knots), SLICE(track_mults), SLICE(track_coords), none, 0, datum,
-        0, 2, SLICE(outfall_knots), SLICE(outfall_mults), SLICE(outfall_coords), none, 0, datum,
-        SLICE(pieces1), SLICE(pieces2), SLICE(nets1), SLICE(nets2), SLICE(ranges), SLICE(depths), SLICE(raw), SLICE(state));
+    uint32_t no = lovgurshem_examine(ASKED, SLICE(pieces1), SLICE(pieces2), SLICE(pairs));
+    if (no != 0) return no;
+    if (!lend(pairs[0])) return 19;
+    return lovgurshem_open(ASKED, SLICE(pieces1), SLICE(pieces2), NETS1, NETS2, RANGES, DEPTHS, RAW, SLICE(state));
 }
 
 /* Each step gets the search's own verdict. Answers 20, the end, or a refusal. */
 static uint32_t take_steps(void)
 {
     for (;;) {
-        uint32_t verdict = lovgurshem_own_verdict(SLICE(state), SLICE(nets1), SLICE(nets2), SLICE(depths));
+        uint32_t verdict = lovgurshem_own_verdict(SLICE(state), NETS1, NETS2, DEPTHS);
         if (verdict > LOVGURSHEM_SETTLED_LINE) return verdict;
-        uint32_t no = lovgurshem_step(verdict, SLICE(state),
-            SLICE(nets1), SLICE(nets2), SLICE(ranges), SLICE(depths), SLICE(raw));
+        uint32_t no = lovgurshem_step(verdict, SLICE(state), NETS1, NETS2, RANGES, DEPTHS, RAW);
         if (no != 0) return no;
     }
 }
@@ -106,8 +134,7 @@ int main(int argc, char **argv)
     }
     no = take_steps();
     if (no == 20)
-        no = lovgurshem_report(SLICE(state), SLICE(nets1), SLICE(nets2), SLICE(ranges), SLICE(depths),
-            SLICE(raw), SLICE(report), SLICE(marks), SLICE(counts));
+        no = lovgurshem_report(SLICE(state), NETS1, NETS2, RANGES, DEPTHS, RAW, REPORT, MARKS, SLICE(counts));
     if (no != 0) {
         printf("refused %u 0\n", (unsigned)no);
         return 1;

@@ -1,4 +1,4 @@
-//! A dredge track searched against an outfall, step by step, and then a whole sheet answered, through the C interface of
+//! A dredge track searched against an outfall, step by step, and then a whole sheet answered in instalments, through the C interface of
 //! `include/lovgurshem.h`. Prints the report as the program clearance prints it.
 //!
 //!     main SHEET      SHEET a file as the program clearance reads it
@@ -9,7 +9,18 @@
 mod sys {
     #[link(name = "lovgurshem", kind = "static")]
     extern "C" {
-        pub fn lovgurshem_answer(sheet: *const u8, sheet_length: usize, out: *mut u8, out_length: usize) -> usize;
+        pub fn lovgurshem_next(
+            sheet: *const u8, sheet_length: usize, cursor: *mut u64, cursor_length: usize, out: *mut u8, out_length: usize,
+        ) -> usize;
+        pub fn lovgurshem_examine(
+            lo1: f64, hi1: f64, lo2: f64, hi2: f64, gap: f64, splits: u32,
+            closed1: u32, degree1: u32, knots1: *const f64, knots1_length: usize, mults1: *const u32, mults1_length: usize,
+            coords1: *const f64, coords1_length: usize, weights1: *const f64, weights1_length: usize, datum1: u32,
+            closed2: u32, degree2: u32, knots2: *const f64, knots2_length: usize, mults2: *const u32, mults2_length: usize,
+            coords2: *const f64, coords2_length: usize, weights2: *const f64, weights2_length: usize, datum2: u32,
+            pieces1: *mut f64, pieces1_length: usize, pieces2: *mut f64, pieces2_length: usize,
+            pairs: *mut u64, pairs_length: usize,
+        ) -> u32;
         pub fn lovgurshem_open(
             lo1: f64, hi1: f64, lo2: f64, hi2: f64, gap: f64, splits: u32,
             closed1: u32, degree1: u32, knots1: *const f64, knots1_length: usize, mults1: *const u32, mults1_length: usize,
@@ -42,12 +53,18 @@ mod sys {
     }
 }
 
-/// The answer to a sheet, as printed.
-fn answer(sheet: &[u8]) -> Vec<u8> {
-    let mut out = vec![0u8; 162446];
-    let n = unsafe { sys::lovgurshem_answer(sheet.as_ptr(), sheet.len(), out.as_mut_ptr(), out.len()) };
-    out.truncate(n);
-    out
+/// Prints the answer to a sheet, a chart's too, in instalments.
+fn print_answer(sheet: &[u8]) {
+    let (mut cursor, mut out) = ([0u64; 2], vec![0u8; 162446]);
+    loop {
+        let n = unsafe {
+            sys::lovgurshem_next(sheet.as_ptr(), sheet.len(), cursor.as_mut_ptr(), cursor.len(), out.as_mut_ptr(), out.len())
+        };
+        if n == 0 {
+            return;
+        }
+        print!("{}", String::from_utf8_lossy(&out[..n]));
+    }
 }
 
 /// A line, as the opening takes it; no weights means that each is 1.
@@ -75,12 +92,26 @@ struct Search {
 type Refused = u32;
 
 impl Search {
-    /// Opens a search; there is room for every pair of pieces.
+    /// Opens a search in memory for its P, which the first act tells.
     fn open(a: &Line, b: &Line, range1: (f64, f64), range2: (f64, f64), gap: f64, splits: u32) -> Result<Search, Refused> {
         let (w1, w2) = (4 * (a.degree as usize + 1), 4 * (b.degree as usize + 1));
-        let (n1, n2) = (a.knots.len() + 1, b.knots.len() + 1);
-        let (pairs, nodes) = (n1 * n2, n1 * n2 + 64);
-        let (mut pieces1, mut pieces2) = (vec![0.0; w1 * n1], vec![0.0; w2 * n2]);
+        // room for twice the pieces between an open line's knots, since a closed line's come again
+        let (mut pieces1, mut pieces2) = (vec![0.0; 2 * w1 * a.knots.len()], vec![0.0; 2 * w2 * b.knots.len()]);
+        let mut pairs = [0u64];
+        let no = unsafe {
+            sys::lovgurshem_examine(
+                range1.0, range1.1, range2.0, range2.1, gap, splits,
+                a.closed as u32, a.degree, a.knots.as_ptr(), a.knots.len(), a.mults.as_ptr(), a.mults.len(),
+                a.coords.as_ptr(), a.coords.len(), a.weights.as_ptr(), a.weights.len(), a.datum,
+                b.closed as u32, b.degree, b.knots.as_ptr(), b.knots.len(), b.mults.as_ptr(), b.mults.len(),
+                b.coords.as_ptr(), b.coords.len(), b.weights.as_ptr(), b.weights.len(), b.datum,
+                pieces1.as_mut_ptr(), pieces1.len(), pieces2.as_mut_ptr(), pieces2.len(), pairs.as_mut_ptr(), pairs.len(),
+            )
+        };
+        if no != 0 {
+            return Err(no);
+        }
+        let (pairs, nodes) = (pairs[0] as usize, pairs[0] as usize + 64);
         let mut s = Search {
             state: [0; 23],
             nets1: vec![0.0; w1 * nodes],
@@ -204,5 +235,5 @@ fn main() {
     }
     let path = std::env::args().nth(1).expect("usage: main SHEET");
     let sheet = std::fs::read(path).expect("the sheet");
-    print!("{}", String::from_utf8_lossy(&answer(&sheet)));
+    print_answer(&sheet);
 }

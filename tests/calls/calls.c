@@ -5,7 +5,8 @@
  *
  *   calls SEED LISTS [LEAST MOST]    LISTS lists of LEAST to MOST calls each
  *
- * A list begins with openings until one isn't refused. Then come steps with
+ * A list begins with openings until one isn't refused, every second one after
+ * its first act alone. Then come steps with
  * any verdict, own verdicts, runs and reports. A call may be lent too short a
  * start of a slice, too few words of a state or of counts, or a state with any
  * of its words forged; in two lists of three states are forged that may pass,
@@ -120,9 +121,9 @@ static Lent lend(World *w, const size_t n[SLICES], size_t depths, size_t marks)
 /* ---- comparing --------------------------------------------------------- */
 
 /* A step is STEP and its verdict. */
-enum { OPEN, STEP, OWN = STEP + UNSEPARATED + 1, RUN, TELL, KINDS };
+enum { OPEN, STEP, OWN = STEP + UNSEPARATED + 1, RUN, TELL, EXAMINE, KINDS };
 static const char *kind_name[] = { "open", "step Settled by box", "step Settled by plane", "step Settled by line", "step Split",
-                                   "step Unseparated", "own verdict", "run", "report" };
+                                   "step Unseparated", "own verdict", "run", "report", "examine" };
 static uint64_t counts[KINDS][32], calls, differences, forged_calls, short_calls, forged_passed;
 static uint64_t list_number, call_number, lists_seed;
 static uint64_t halved[2], deep, stopped, merged_regions, raw_regions;
@@ -563,6 +564,24 @@ static void draw_data(Drawn d[2], int spoil)
     data_drawn[!one_datum(a, b)]++;
 }
 
+#define LINE(g) (g).closed, (g).degree, (g).knots, (g).knot_count, (g).mults, (g).mult_count, (g).coords, (g).coord_count, (g).weights, (g).weight_count, (g).datum
+
+/* The first act alone, on the slices that the opening is lent; every eighth time without a word for P. Answers P, or UINT64_MAX where none was told. */
+static uint64_t do_examine(const Given g[2], const double range[2][2], double gap, uint32_t splits)
+{
+    static uint64_t times;
+    uint64_t pairs[2][3] = { { UNTOUCHED, UNTOUCHED, UNTOUCHED }, { UNTOUCHED, UNTOUCHED, UNTOUCHED } };
+    size_t n = times++ % 8 == 7 ? 0 : 1 + times % 2;
+    uint32_t got = lovgurshem_examine(range[0][0], range[0][1], range[1][0], range[1][1], gap, splits,
+        LINE(g[0]), LINE(g[1]), PART(lent[0].pieces[0]), PART(lent[0].pieces[1]), pairs[0], n);
+    int no = call_examine(g, range, gap, splits, &lent[1], pairs[1], n);
+    compare_number(EXAMINE, "answer", got, (uint64_t)no);
+    for (int i = 0; i < 3; i++) compare_number(EXAMINE, "word", pairs[0][i], pairs[1][i]);
+    count(EXAMINE, no & 255);
+    compare_worlds(EXAMINE, 0);
+    return no == 0 ? pairs[0][0] : UINT64_MAX;
+}
+
 /* 1 to 18 and from 22 on leave the words and every slice as they were; all are
    compared in full, whatever is answered. */
 static int do_open(State *s, int spoil)
@@ -613,16 +632,18 @@ static int do_open(State *s, int spoil)
     lent[1] = lend(&model, n, n[SLICES], mark_cap);
     hand_words(NULL);
     Lent *a = &lent[0];
-#define LINE(g) (g).closed, (g).degree, (g).knots, (g).knot_count, (g).mults, (g).mult_count, (g).coords, (g).coord_count, (g).weights, (g).weight_count, (g).datum
+    static uint64_t times;
+    Given both[2] = { d[0].given, d[1].given };
+    uint64_t pairs = times++ % 2 ? do_examine(both, (const double (*)[2])range, gap, splits) : UINT64_MAX;
     uint32_t got = lovgurshem_open(range[0][0], range[0][1], range[1][0], range[1][1], gap, splits,
         LINE(d[0].given), LINE(d[1].given), PART(a->pieces[0]), PART(a->pieces[1]), PART(a->nets[0]), PART(a->nets[1]),
         PART(a->ranges), PART(a->depths), PART(a->raw), words[0], words_lent);
-    Given both[2] = { d[0].given, d[1].given };
     int no = call_open(both, (const double (*)[2])range, gap, splits, &lent[1], words[1], words_lent);
     compare_number(OPEN, "answer", got, (uint64_t)no);
     compare_words(OPEN, no);
     if (no == 0) {
         next_state(s);
+        if (pairs != UINT64_MAX) compare_number(EXAMINE, "P", pairs, words[0][0]);
         whole_openings += s->turn[0].whole || s->turn[1].whole;
     }
     count(OPEN, no & 255);

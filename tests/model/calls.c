@@ -318,9 +318,9 @@ static int take_given(const Given *g, Line *l)
 
 /* The opening: the number, with 256 times the line for 4 to 15, 18, 22 and 23,
  * or 0 and the first state's words. The words are a lent slice as the pieces
- * are. */
-static int call_open(const Given given[2], const double range[2][2], double gap,
-                     uint32_t splits, const Lent *m, uint64_t *w, size_t n)
+ * are. With a least count of 1 it is the first act alone, and the word is P. */
+static int acts(const Given given[2], const double range[2][2], double gap,
+                uint32_t splits, const Lent *m, uint64_t *w, size_t n, size_t least)
 {
     static Sheet sheet;
     static Search breaks; /* for its breaks, widths, counts of pieces and turns */
@@ -334,14 +334,16 @@ static int call_open(const Given given[2], const double range[2][2], double gap,
         if (fault) return fault + 256 * (i + 1);
         fill_flat(&sheet.line[i]);
         fill_list(&sheet.line[i]);
+        memcpy(sheet.line[i].range, range[i], sizeof sheet.line[i].range);
     }
     if (!one_datum(given[0].datum, given[1].datum)) return 23 + 256 * 2;
-    memcpy(sheet.range, range, sizeof sheet.range);
+    sheet.lines = 2;
     sheet.gap = gap;
     sheet.splits_per_pair = splits;
-    r = ask(&sheet, &breaks);
-    if (r.number) return r.number + 256 * r.line;
-    if (n < STATE_WORDS) return 19;
+    r = ask(&sheet);
+    if (r.number) return r.number + 256 * (int)r.place;
+    if (n < least) return 19;
+    take_pair(&breaks, &sheet, 1);
     for (int i = 0; i < 2; i++)
         if (4 * (size_t)breaks.width[i] * breaks.piece_count[i] > m->pieces[i].length)
             return 19;
@@ -356,6 +358,7 @@ static int call_open(const Given given[2], const double range[2][2], double gap,
     for (uint32_t i = 0; i < breaks.piece_count[0]; i++)
         for (uint32_t j = 0; j < breaks.piece_count[1]; j++)
             pairs += !boxes_apart(boxes[0][i], boxes[1][j], gap);
+    if (least == 1) return w[0] = pairs, 0;
     first.pairs = (uint16_t)pairs;
     first.quota = (uint16_t)splits;
     first.unspent = (uint32_t)(splits * pairs);
@@ -378,6 +381,19 @@ static int call_open(const Given given[2], const double range[2][2], double gap,
         }
     write_words(&first, w);
     return 0;
+}
+
+static int call_open(const Given given[2], const double range[2][2], double gap,
+                     uint32_t splits, const Lent *m, uint64_t *w, size_t n)
+{
+    return acts(given, range, gap, splits, m, w, n, STATE_WORDS);
+}
+
+/* Reads and writes of the lent memory the pieces alone. */
+static int call_examine(const Given given[2], const double range[2][2], double gap,
+                        uint32_t splits, const Lent *m, uint64_t *pairs, size_t n)
+{
+    return acts(given, range, gap, splits, m, pairs, n, 1);
 }
 
 /* A verdict as a number: "every other number of 32 bits Unseparated". */

@@ -1,19 +1,21 @@
 /*
- * The sheet program of document 01 with document 02's M-100, M-101, M-103 and
- * M-104: two B-splines, open or closed, of one datum, a stretch of each and a
- * gap; the answer is a verdict with counts, of the settled nodes by the test
- * that cleared them too, and the regions that could not be cleared, each with
- * its stretch mark, or a refusal with its number.
+ * The sheet program of document 01 with document 02's M-100, M-101, M-103,
+ * M-104 and M-105: two B-splines, open or closed, of one datum, a stretch of
+ * each and a gap; the answer is a verdict with counts, of the settled nodes by
+ * the test that cleared them too, and the regions that could not be cleared,
+ * each with its stretch mark, or a refusal with its number. Of a chart, a track
+ * and up to 64 lines, the answer has such a report for each line and a last
+ * line.
  *
  *   clearance < SHEET            prints the answer
  *   clearance --pieces < SHEET   the answer, then the net of every piece
  *   clearance --many             sheets one after the other on standard input,
  *                                each a 32-bit little-endian length and that
  *                                many bytes; each answer ends with a line ---
- *   clearance --level L ...      at a level of document 02: below 104 a sheet's
- *                                lines have no datum, and the answer is below
- *                                103 without box=, plane= and line=, below 101
- *                                without marks
+ *   clearance --level L ...      at a level of document 02: below 105 there is
+ *                                no chart, below 104 a sheet's lines have no
+ *                                datum, and the answer is below 103 without
+ *                                box=, plane= and line=, below 101 without marks
  *
  * Build: cc -O2 -std=c99 -ffp-contract=off -o clearance clearance.c -lm
  *
@@ -47,7 +49,8 @@ enum {
     MAX_BREAKS = MAX_PIECES + 1,
     MAX_SPLITS = 256,
     MAX_DEPTH = 64,
-    MAX_DATUM = 9999 /* 02, M-104 */
+    MAX_DATUM = 9999, /* 02, M-104 */
+    MAX_CHART = 64    /* 02, M-105: lines after the track */
 };
 #define MAX_KNOT 1048576.0           /* 2^20 */
 #define MAX_COORDINATE 16777216.0    /* 2^24 */
@@ -77,6 +80,7 @@ typedef struct {
     double poles[MAX_WORDS / 2]; /* x, y, z of each pole */
     double weights[MAX_WORDS / 2];
     uint32_t datum;
+    double range[2]; /* the asked lo and hi */
     /* once admitted: */
     double flat[MAX_POLES + MAX_WIDTH]; /* knots with repeats */
     double list[MAX_LIST];              /* knots of a closed line, two turns */
@@ -84,9 +88,10 @@ typedef struct {
 } Line;
 
 typedef struct {
-    Line line[2];
+    int chart;
+    uint32_t lines;           /* the first, or the track, and all after it */
+    Line line[MAX_CHART + 2]; /* what a chart has too many goes into the last */
     uint32_t splits_per_pair;
-    double range[2][2]; /* lo, hi of each line */
     double gap;
 } Sheet;
 
@@ -114,16 +119,22 @@ static int within(double lo, double x, double hi)
 /* ---- Sheet walk: numbers 1, 2 and 3 (01, table and Sheet program) ------ */
 
 /* The level of document 02 whose sheets are read and answers printed. */
-static int level = 104;
+static int level = 105;
 
 enum { KIND_LINE = 1, KIND_KNOTS, KIND_MULTS, KIND_POLES, KIND_WEIGHTS,
-       KIND_QUESTION, KIND_END, KIND_CLOSED, KIND_DATUM };
+       KIND_QUESTION, KIND_END, KIND_CLOSED, KIND_DATUM, KIND_RANGE = 11 };
 
 typedef struct {
     const uint32_t *words;
     uint32_t count; /* words of the sheet */
     uint32_t at;    /* the next word */
 } Walk;
+
+/* The kind of the next word, or 0, which none of those above is, at the end. */
+static uint32_t next_kind(const Walk *w)
+{
+    return w->at == w->count ? 0 : w->words[w->at] >> 28;
+}
 
 /* Takes the next word, which must be of `kind`, and its count. */
 static int take_head(Walk *w, uint32_t kind, uint32_t *count)
@@ -132,6 +143,14 @@ static int take_head(Walk *w, uint32_t kind, uint32_t *count)
     if (w->words[w->at] >> 28 != kind) return 2;
     *count = w->words[w->at++] & 0x0FFFFFFF;
     return 0;
+}
+
+/* Takes the next word, which must be of `kind` with a count of 0. */
+static int take_bare(Walk *w, uint32_t kind)
+{
+    uint32_t count = 0;
+    int no = take_head(w, kind, &count);
+    return count == 0 ? no : 2;
 }
 
 static int take_words(Walk *w, uint64_t n, uint32_t *out)
@@ -169,7 +188,7 @@ static int take_weights(Walk *w, Line *l)
 /* 02: "kind 8 in the place of kind 1, its count the degree". */
 static int take_degree(Walk *w, Line *l)
 {
-    l->closed = w->at < w->count && w->words[w->at] >> 28 == KIND_CLOSED;
+    l->closed = next_kind(w) == KIND_CLOSED;
     return take_head(w, l->closed ? KIND_CLOSED : KIND_LINE, &l->degree);
 }
 
@@ -194,23 +213,69 @@ static int take_line(Walk *w, Line *l)
     return no;
 }
 
+static int line_follows(const Walk *w)
+{
+    return next_kind(w) == KIND_LINE || next_kind(w) == KIND_CLOSED;
+}
+
+/* The place of the next line of the sheet. */
+static Line *next_line(Sheet *s)
+{
+    uint32_t k = s->lines++;
+    return &s->line[k <= MAX_CHART ? k : MAX_CHART + 1];
+}
+
+/* 02, M-105: "a kind 11 word after its kind 9, count 0 (else 2), followed by lo
+ * and hi". */
+static int take_range(Walk *w, Line *l)
+{
+    int no = take_bare(w, KIND_RANGE);
+    return no ? no : take_floats(w, 2, l->range);
+}
+
+static int take_chart_line(Walk *w, Line *l)
+{
+    int no = take_line(w, l);
+    return no ? no : take_range(w, l);
+}
+
+/* 02, M-105: "A sheet is a chart if a kind 11 word follows its second line, or
+ * if no line follows the track." */
+static int take_lines(Walk *w, Sheet *s)
+{
+    int no;
+    s->lines = 0;
+    no = take_line(w, next_line(s));
+    if (no) return no;
+    s->chart = level >= 105 && !line_follows(w);
+    if (s->chart) return 0;
+    no = take_line(w, next_line(s));
+    if (no) return no;
+    s->chart = level >= 105 && next_kind(w) == KIND_RANGE;
+    if (!s->chart) return 0;
+    no = take_range(w, &s->line[1]);
+    while (!no && line_follows(w)) no = take_chart_line(w, next_line(s));
+    return no;
+}
+
+/* 02, M-105: "kind 6 keeps the track's range with its second range given as 0, 0
+ * and unread". */
 static int take_question(Walk *w, Sheet *s)
 {
     double q[5];
     int no = take_head(w, KIND_QUESTION, &s->splits_per_pair);
     if (!no) no = take_floats(w, 5, q);
     if (no) return no;
-    memcpy(s->range, q, sizeof s->range);
+    memcpy(s->line[0].range, q, sizeof s->line[0].range);
+    if (!s->chart) memcpy(s->line[1].range, q + 2, sizeof s->line[1].range);
     s->gap = q[4];
     return 0;
 }
 
 static int take_end(Walk *w)
 {
-    uint32_t count;
-    int no = take_head(w, KIND_END, &count);
+    int no = take_bare(w, KIND_END);
     if (no) return no;
-    if (count != 0) return 2;
     return w->at == w->count ? 0 : 3;
 }
 
@@ -227,8 +292,7 @@ static int walk_sheet(const unsigned char *bytes, size_t length, Sheet *s)
         words[i] = (uint32_t)b[0] | (uint32_t)b[1] << 8 | (uint32_t)b[2] << 16
                  | (uint32_t)b[3] << 24;
     }
-    no = take_line(&w, &s->line[0]);
-    if (!no) no = take_line(&w, &s->line[1]);
+    no = take_lines(&w, s);
     if (!no) no = take_question(&w, s);
     if (!no) no = take_end(&w);
     return no;
@@ -367,9 +431,9 @@ static void fill_list(Line *l)
 /* Whether the range is finite, rises and keeps to the line's bounds: flat
  * knots number degree and number poles. 02: a closed line's range "starts in
  * [first knot, last knot) and is, as rounded, no longer than the period". */
-static int range_fits(const Line *l, const double range[2])
+static int range_fits(const Line *l)
 {
-    double lo = range[0], hi = range[1];
+    double lo = l->range[0], hi = l->range[1];
     if (!isfinite(lo) || !isfinite(hi) || lo >= hi) return 0;
     if (l->closed)
         return first_knot(l) <= lo && lo < last_knot(l) && hi - lo <= period(l);
@@ -378,8 +442,9 @@ static int range_fits(const Line *l, const double range[2])
 
 /* The breaks: lo, each knot of the list strictly between, hi (01, Pieces). A
  * closed line's list may repeat or fall by rounding: number 18 meets it. */
-static int fill_breaks(const Line *l, const double range[2], double *breaks)
+static int fill_breaks(const Line *l, double *breaks)
 {
+    const double *range = l->range;
     int n = 0;
     breaks[n++] = range[0];
     for (uint32_t i = 0; i < l->list_count; i++)
@@ -744,6 +809,7 @@ typedef struct {
 } Turn;
 
 typedef struct {
+    const Line *line[2];
     double gap;
     Turn turn[2];
     uint32_t width[2];
@@ -773,13 +839,13 @@ static double *net_of(Search *s, int line, uint64_t node)
 }
 
 /* Fills the pieces of both lines; number 19 before any write. */
-static int fill_pieces(Search *s, const Sheet *sheet)
+static int fill_pieces(Search *s)
 {
     for (int k = 0; k < 2; k++)
         if (4 * s->width[k] * s->piece_count[k] > LENT_PIECES) return 19;
     for (int k = 0; k < 2; k++)
         for (uint32_t i = 0; i < s->piece_count[k]; i++)
-            fill_piece(&sheet->line[k], s->breaks[k][i], s->breaks[k][i + 1],
+            fill_piece(s->line[k], s->breaks[k][i], s->breaks[k][i + 1],
                        piece_of(s, k, i));
     return 0;
 }
@@ -829,10 +895,35 @@ static uint64_t for_pairs(Search *s, int push)
     return pairs;
 }
 
-/* Opens the search of an admitted question: 0, or number 19. */
-static int open_search(Search *s, const Sheet *sheet)
+/* 02, M-101: "the line is closed, its asked hi - lo, as rounded, is the
+ * period" */
+static Turn turn_of(const Line *l)
 {
-    int no = fill_pieces(s, sheet);
+    const double *range = l->range;
+    Turn t = { l->closed && range[1] - range[0] == period(l), range[0], range[1] };
+    return t;
+}
+
+/* The search is of the sheet's first line, or the track, and of line k, counted
+ * from 0. */
+static void take_pair(Search *s, const Sheet *sheet, uint32_t k)
+{
+    for (int i = 0; i < 2; i++) {
+        const Line *l = &sheet->line[i == 0 ? 0 : k];
+        s->line[i] = l;
+        s->piece_count[i] = (uint32_t)fill_breaks(l, s->breaks[i]) - 1;
+        s->width[i] = l->degree + 1;
+        s->turn[i] = turn_of(l);
+    }
+    s->gap = sheet->gap;
+}
+
+/* Opens the search of line k of an admitted sheet: 0, or number 19. */
+static int open_search(Search *s, const Sheet *sheet, uint32_t k)
+{
+    int no;
+    take_pair(s, sheet, k);
+    no = fill_pieces(s);
     if (no) return no;
     s->pairs = for_pairs(s, 0);
     if (!memory_fits(s, s->pairs, sheet->splits_per_pair)) return 19;
@@ -976,13 +1067,6 @@ static void sort_regions(Region *list, uint64_t n)
 
 /* ---- Stretch marks (02, M-101) ----------------------------------------- */
 
-/* "the line is closed, its asked hi - lo, as rounded, is the period" */
-static Turn turn_of(const Line *l, const double range[2])
-{
-    Turn t = { l->closed && range[1] - range[0] == period(l), range[0], range[1] };
-    return t;
-}
-
 /* "and one starts at the asked lo while the other ends at the asked hi" */
 static int over_seam(const Turn *t, const double *a, const double *b)
 {
@@ -1068,14 +1152,16 @@ static void print_tags(const uint64_t by[TAGS])
         printf(" %s=%lu", name[i], (unsigned long)by[i]);
 }
 
+/* 01, Merging: "complete if empty; budget if left > 0; else unseparated". */
+static const char *verdict_word(const Search *s)
+{
+    if (s->waiting > 0) return "budget";
+    return s->given > 0 ? "unseparated" : "complete";
+}
+
 static void print_result(const Search *s, uint64_t regions)
 {
-    const char *word = "complete";
-    if (s->waiting > 0)
-        word = "budget";
-    else if (s->given > 0)
-        word = "unseparated";
-    printf("%s pairs=%lu visits=%lu splits=%lu settled=%lu", word,
+    printf("%s pairs=%lu visits=%lu splits=%lu settled=%lu", verdict_word(s),
            (unsigned long)s->pairs, (unsigned long)s->visits,
            (unsigned long)s->splits, (unsigned long)s->settled);
     if (level >= 103) print_tags(s->by);
@@ -1089,78 +1175,122 @@ static void print_result(const Search *s, uint64_t regions)
     }
 }
 
-static void print_pieces(Search *s)
+/* The nets of line k of the search, which has this place in the sheet. */
+static void print_nets(Search *s, int k, uint32_t place)
 {
-    for (int k = 0; k < 2; k++)
-        for (uint32_t i = 0; i < s->piece_count[k]; i++) {
-            const double *net = piece_of(s, k, i);
-            printf("piece %d %lu", k + 1, (unsigned long)i);
-            for (uint32_t j = 0; j < 4 * s->width[k]; j++) print_float(net[j]);
-            printf("\n");
-        }
+    for (uint32_t i = 0; i < s->piece_count[k]; i++) {
+        const double *net = piece_of(s, k, i);
+        printf("piece %lu %lu", (unsigned long)place, (unsigned long)i);
+        for (uint32_t j = 0; j < 4 * s->width[k]; j++) print_float(net[j]);
+        printf("\n");
+    }
+}
+
+static void print_pieces(Search *s, const Sheet *sheet)
+{
+    for (uint32_t k = 1; k < sheet->lines; k++) {
+        open_search(s, sheet, k);
+        if (k == 1) print_nets(s, 0, 1);
+        print_nets(s, 1, k + 1);
+    }
 }
 
 /* ---- Sheet program ----------------------------------------------------- */
 
-typedef struct { int number, line; } Refusal;
+typedef struct {
+    int number;
+    uint32_t place;
+} Refusal;
 
-static Refusal refusal(int number, int line)
+static Refusal refusal(int number, uint32_t place)
 {
-    Refusal r = { number, line };
+    Refusal r = { number, place };
     return r;
 }
 
-/* Numbers 15 to 18; fills the breaks of both lines. */
-static Refusal ask(const Sheet *sheet, Search *s)
+/* 02, M-105: 24 "when there are no lines or more than 64". */
+static int chart_fits(const Sheet *s)
 {
-    for (int k = 0; k < 2; k++)
-        if (!range_fits(&sheet->line[k], sheet->range[k]))
-            return refusal(15, k + 1);
-    if (!within(0.0, sheet->gap, MAX_GAP)) return refusal(16, 0);
-    if (sheet->splits_per_pair > MAX_SPLITS) return refusal(17, 0);
-    for (int k = 0; k < 2; k++) {
-        const Line *l = &sheet->line[k];
-        int n = fill_breaks(l, sheet->range[k], s->breaks[k]);
-        if (!breaks_have_middles(s->breaks[k], n)) return refusal(18, k + 1);
-        s->piece_count[k] = (uint32_t)(n - 1);
-        s->width[k] = l->degree + 1;
-        s->turn[k] = turn_of(l, sheet->range[k]);
+    return !s->chart || (s->lines >= 2 && s->lines <= MAX_CHART + 1);
+}
+
+/* Numbers 4 to 14, 22 and 23 line by line. 02, M-105: "Each datum is held
+ * against the track's after that line's 14"; the place is "the line's place in
+ * the sheet, the track being 1". */
+static Refusal admit(Sheet *s)
+{
+    for (uint32_t k = 0; k < s->lines; k++) {
+        Line *l = &s->line[k];
+        int no = line_fault(l);
+        if (no) return refusal(no, k + 1);
+        if (k > 0 && !one_datum(s->line[0].datum, l->datum))
+            return refusal(23, k + 1);
+        fill_flat(l);
+        fill_list(l);
     }
-    s->gap = sheet->gap;
     return refusal(0, 0);
 }
 
-/* Numbers 1 to 19, 22 and 23 in the table's order; 0 leaves an open search. */
-static Refusal open_sheet(const unsigned char *bytes, size_t length,
+/* Numbers 15 to 18 of an admitted sheet. 02, M-105: "15 and 18 are met line by
+ * line". */
+static Refusal ask(const Sheet *s)
+{
+    double breaks[MAX_BREAKS];
+    for (uint32_t k = 0; k < s->lines; k++)
+        if (!range_fits(&s->line[k])) return refusal(15, k + 1);
+    if (!within(0.0, s->gap, MAX_GAP)) return refusal(16, 0);
+    if (s->splits_per_pair > MAX_SPLITS) return refusal(17, 0);
+    for (uint32_t k = 0; k < s->lines; k++) {
+        int n = fill_breaks(&s->line[k], breaks);
+        if (!breaks_have_middles(breaks, n)) return refusal(18, k + 1);
+    }
+    return refusal(0, 0);
+}
+
+/* Number 19 of every line, each on the memory that is lent to it alone. */
+static Refusal find_room(const Sheet *sheet, Search *s)
+{
+    for (uint32_t k = 1; k < sheet->lines; k++)
+        if (open_search(s, sheet, k)) return refusal(19, 0);
+    return refusal(0, 0);
+}
+
+/* Numbers 1 to 19 and 22 to 24 in the table's order. */
+static Refusal test_sheet(const unsigned char *bytes, size_t length,
                           Sheet *sheet, Search *s)
 {
     Refusal r = refusal(walk_sheet(bytes, length, sheet), 0);
-    if (r.number) return r;
-    for (int k = 0; k < 2; k++) {
-        int no = line_fault(&sheet->line[k]);
-        if (no) return refusal(no, k + 1);
-        fill_flat(&sheet->line[k]);
-        fill_list(&sheet->line[k]);
-    }
-    if (!one_datum(sheet->line[0].datum, sheet->line[1].datum))
-        return refusal(23, 2);
-    r = ask(sheet, s);
-    if (r.number) return r;
-    return refusal(open_search(s, sheet), 0);
+    if (!r.number && !chart_fits(sheet)) r = refusal(24, 0);
+    if (!r.number) r = admit(sheet);
+    if (!r.number) r = ask(sheet);
+    if (!r.number) r = find_room(sheet, s);
+    return r;
 }
 
+/* Searches line k and prints its report; gives whether it is complete. */
+static int print_report(const Sheet *sheet, Search *s, uint32_t k)
+{
+    open_search(s, sheet, k);
+    while (!s->ended) step(s);
+    print_result(s, report(s));
+    return s->waiting == 0 && s->given == 0;
+}
+
+/* 02, M-105: "each line's own report in sheet order ..; a last line". */
 static void answer(const unsigned char *bytes, size_t length, int pieces)
 {
     static Sheet sheet;
     static Search search;
-    Refusal r = open_sheet(bytes, length, &sheet, &search);
+    int complete = 1;
+    Refusal r = test_sheet(bytes, length, &sheet, &search);
     if (r.number) {
-        printf("refused %d %d\n", r.number, r.line);
+        printf("refused %d %lu\n", r.number, (unsigned long)r.place);
         return;
     }
-    while (!search.ended) step(&search);
-    print_result(&search, report(&search));
-    if (pieces) print_pieces(&search);
+    for (uint32_t k = 1; k < sheet.lines; k++)
+        complete &= print_report(&sheet, &search, k);
+    if (sheet.chart) printf("chart %s\n", complete ? "complete" : "incomplete");
+    if (pieces) print_pieces(&search, &sheet);
 }
 
 /* Reads up to n bytes; keeps at most MAX_BYTES + 1 of them, which is enough

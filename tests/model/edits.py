@@ -4,7 +4,8 @@
   edits.py [--where] DIR ...
   edits.py --random SEED N
 
-Each edit below makes one mistake in clearance.c. The edited program is built
+Each edit below makes one mistake in clearance.c, an old and a new text or more
+such pairs. The edited program is built
 and run on the sheets of each DIR/sheets.txt (or, with --random, on the drawn
 sheets and N random ones of the seed, all levels among them); an edit is seen
 if an answer differs from the unedited program's. Exit 1 if an edit is not seen,
@@ -29,9 +30,9 @@ EDITS = [
      'if (w->at == w->count) return 2;\n    if (w->words[w->at] >> 28 != kind)'),
     ('weights count 0', 'if (l->weight_count == 0) return 2;', ''),
     ('weights count 0 gives 3', 'if (l->weight_count == 0) return 2;', 'if (l->weight_count == 0) return 3;'),
-    ('end count', 'if (count != 0) return 2;', ''),
-    ('end count after words', 'if (count != 0) return 2;\n    return w->at == w->count ? 0 : 3;',
-     'if (w->at != w->count) return 3;\n    return count != 0 ? 2 : 0;'),
+    ('end count', 'int no = take_bare(w, KIND_END);', 'uint32_t count;\n    int no = take_head(w, KIND_END, &count);'),
+    ('end count after words', '    int no = take_bare(w, KIND_END);\n    if (no) return no;\n    return w->at == w->count ? 0 : 3;',
+     '    uint32_t count;\n    int no = take_head(w, KIND_END, &count);\n    if (no) return no;\n    if (w->at != w->count) return 3;\n    return count != 0 ? 2 : 0;'),
     ('words after the end', 'return w->at == w->count ? 0 : 3;', 'return 0;'),
     ('no weights at the end of the sheet', '    if (w->at == w->count) return 3;\n    if (w->words[w->at] >> 28 != KIND_WEIGHTS)',
      '    if (w->at == w->count) return 2;\n    if (w->words[w->at] >> 28 != KIND_WEIGHTS)'),
@@ -57,7 +58,7 @@ EDITS = [
      'int no = take_head(w, KIND_DATUM, &l->datum);\n    return !no && l->datum == 0 ? 2 : no;'),
     ('datum over 9,999 in the walk', 'return level >= 104 ? take_head(w, KIND_DATUM, &l->datum) : 0;',
      'int no = take_head(w, KIND_DATUM, &l->datum);\n    return !no && l->datum > MAX_DATUM ? 2 : no;'),
-    ('data untested', '    if (!one_datum(sheet->line[0].datum, sheet->line[1].datum))\n        return refusal(23, 2);\n', ''),
+    ('data untested', '        if (k > 0 && !one_datum(s->line[0].datum, l->datum))\n            return refusal(23, k + 1);\n', ''),
     ('data that differ', ' && first == second;', ';'),
     ('data outside the span', 'return datum_in_span(first) && datum_in_span(second) && first == second;', 'return first == second;'),
     ('datum 0', 'return 1 <= datum && datum <= MAX_DATUM;', 'return datum <= MAX_DATUM;'),
@@ -65,24 +66,26 @@ EDITS = [
     ('datum 1 refused', 'return 1 <= datum && datum <= MAX_DATUM;', 'return 1 < datum && datum <= MAX_DATUM;'),
     ('datum 10,000', 'MAX_DATUM = 9999', 'MAX_DATUM = 10000'),
     ('datum 9,999 refused', 'MAX_DATUM = 9999', 'MAX_DATUM = 9998'),
-    ('data as 16 bits', 'one_datum(sheet->line[0].datum, sheet->line[1].datum)', 'one_datum((uint16_t)sheet->line[0].datum, (uint16_t)sheet->line[1].datum)'),
+    ('data as 16 bits', 'one_datum(s->line[0].datum, l->datum)', 'one_datum((uint16_t)s->line[0].datum, (uint16_t)l->datum)'),
     ('data compared as 16 bits', 'return datum_in_span(first) && datum_in_span(second) && first == second;', 'return datum_in_span(second) && (uint16_t)first == (uint16_t)second;'),
     ('data compared as 8 bits', ' && first == second;', ' && (uint8_t)first == (uint8_t)second;'),
     ('data compared by order', ' && first == second;', ' && first <= second;'),
     ('span or equal', '&& datum_in_span(second) && first == second;', '&& datum_in_span(second) || first == second;'),
-    ('23 with line 1', 'return refusal(23, 2);', 'return refusal(23, 1);'),
-    ('23 with 0', 'return refusal(23, 2);', 'return refusal(23, 0);'),
-    ('23 with the line outside the span', 'return refusal(23, 2);', 'return refusal(23, datum_in_span(sheet->line[0].datum) ? 2 : 1);'),
-    ('23 before the first line', '    Refusal r = refusal(walk_sheet(bytes, length, sheet), 0);\n    if (r.number) return r;\n',
-     '    Refusal r = refusal(walk_sheet(bytes, length, sheet), 0);\n    if (r.number) return r;\n    if (!one_datum(sheet->line[0].datum, sheet->line[1].datum)) return refusal(23, 2);\n'),
-    ('23 before the second line', 'int no = line_fault(&sheet->line[k]);',
-     'int no = line_fault(&sheet->line[k]);\n        if (k == 1 && !one_datum(sheet->line[0].datum, sheet->line[1].datum)) return refusal(23, 2);'),
-    ('span before the second line', 'int no = line_fault(&sheet->line[k]);',
-     'int no = line_fault(&sheet->line[k]);\n        if (k == 1 && !datum_in_span(sheet->line[0].datum)) return refusal(23, 2);'),
-    ('23 after 15', '    if (!one_datum(sheet->line[0].datum, sheet->line[1].datum))\n        return refusal(23, 2);\n    r = ask(sheet, s);\n',
-     '    r = ask(sheet, s);\n    if (r.number == 15) return r;\n    if (!one_datum(sheet->line[0].datum, sheet->line[1].datum))\n        return refusal(23, 2);\n'),
-    ('23 after 18', '    if (!one_datum(sheet->line[0].datum, sheet->line[1].datum))\n        return refusal(23, 2);\n    r = ask(sheet, s);\n    if (r.number) return r;\n',
-     '    r = ask(sheet, s);\n    if (r.number) return r;\n    if (!one_datum(sheet->line[0].datum, sheet->line[1].datum))\n        return refusal(23, 2);\n'),
+    ('23 with line 1', 'return refusal(23, k + 1);', 'return refusal(23, 1);'),
+    ('23 with 0', 'return refusal(23, k + 1);', 'return refusal(23, 0);'),
+    ('23 with the line outside the span', 'return refusal(23, k + 1);', 'return refusal(23, datum_in_span(s->line[0].datum) ? k + 1 : 1);'),
+    ('23 before the first line', 'int no = line_fault(l);',
+     'int no = line_fault(l);\n        if (k == 0 && s->lines == 2 && !one_datum(l->datum, s->line[1].datum)) return refusal(23, 2);'),
+    ('23 before the second line', 'int no = line_fault(l);', 'int no = line_fault(l);\n        if (k == 1 && !one_datum(s->line[0].datum, l->datum)) return refusal(23, 2);'),
+    ('span before the second line', 'int no = line_fault(l);', 'int no = line_fault(l);\n        if (k == 1 && !datum_in_span(s->line[0].datum)) return refusal(23, 2);'),
+    ('23 after 15', '        if (k > 0 && !one_datum(s->line[0].datum, l->datum))\n            return refusal(23, k + 1);\n',
+     '',
+     '    if (!within(0.0, s->gap, MAX_GAP)) return refusal(16, 0);\n',
+     '    if (s->lines == 2 && !one_datum(s->line[0].datum, s->line[1].datum)) return refusal(23, 2);\n    if (!within(0.0, s->gap, MAX_GAP)) return refusal(16, 0);\n'),
+    ('23 after 18', '        if (k > 0 && !one_datum(s->line[0].datum, l->datum))\n            return refusal(23, k + 1);\n',
+     '',
+     '    if (!r.number) r = ask(sheet);\n',
+     '    if (!r.number) r = ask(sheet);\n    if (!r.number && sheet->lines == 2 && !one_datum(sheet->line[0].datum, sheet->line[1].datum)) r = refusal(23, 2);\n'),
     # admission
     ('degree 0', 'l->degree < 1 || ', ''),
     ('degree 26', 'MAX_DEGREE = 25,\n    MAX_WIDTH = MAX_DEGREE + 1', 'MAX_DEGREE = 26,\n    MAX_WIDTH = MAX_DEGREE + 1'),
@@ -117,24 +120,24 @@ EDITS = [
     ('greatest weight', '#define MAX_WEIGHT 1024.0', '#define MAX_WEIGHT 1023.0'),
     ('greatest weight 2^11', '#define MAX_WEIGHT 1024.0', '#define MAX_WEIGHT 2048.0'),
     ('coordinate 2^24', '#define MAX_COORDINATE 16777216.0', '#define MAX_COORDINATE 16777215.0'),
-    ('lines by number', 'int no = line_fault(&sheet->line[k]);',
-     'int no = line_fault(&sheet->line[k]), no2 = line_fault(&sheet->line[1]);\n        if (no2 && no2 < no) return refusal(no2, 2);'),
+    ('lines by number', 'int no = line_fault(l);',
+     'int no = line_fault(l), no2 = s->lines > 1 ? line_fault(&s->line[1]) : 0;\n        if (no2 && no2 < no) return refusal(no2, 2);'),
     # question
     ('empty range', 'lo >= hi) return 0;', 'lo > hi) return 0;'),
     ('range below the bounds', 'return l->flat[l->degree] <= lo && hi <=', 'return hi <='),
     ('bounds are the end knots', 'l->flat[l->degree] <= lo && hi <= l->flat[l->pole_count]',
      'l->knots[0] <= lo && hi <= l->knots[l->knot_count - 1]'),
-    ('gap 0', 'within(0.0, sheet->gap, MAX_GAP)', 'within(5e-324, sheet->gap, MAX_GAP)'),
+    ('gap 0', 'within(0.0, s->gap, MAX_GAP)', 'within(5e-324, s->gap, MAX_GAP)'),
     ('gap 2^24', '#define MAX_GAP 16777216.0', '#define MAX_GAP 16777215.0'),
-    ('S 257', 'sheet->splits_per_pair > MAX_SPLITS)', 'sheet->splits_per_pair > MAX_SPLITS + 1)'),
-    ('S 256', 'sheet->splits_per_pair > MAX_SPLITS)', 'sheet->splits_per_pair >= MAX_SPLITS)'),
-    ('17 before 16', 'if (!within(0.0, sheet->gap, MAX_GAP)) return refusal(16, 0);\n',
-     'if (sheet->splits_per_pair > MAX_SPLITS) return refusal(17, 0);\n    if (!within(0.0, sheet->gap, MAX_GAP)) return refusal(16, 0);\n'),
-    ('15 of the first only', 'for (int k = 0; k < 2; k++)\n        if (!range_fits', 'for (int k = 0; k < 1; k++)\n        if (!range_fits'),
+    ('S 257', 's->splits_per_pair > MAX_SPLITS)', 's->splits_per_pair > MAX_SPLITS + 1)'),
+    ('S 256', 's->splits_per_pair > MAX_SPLITS)', 's->splits_per_pair >= MAX_SPLITS)'),
+    ('17 before 16', '    if (!within(0.0, s->gap, MAX_GAP)) return refusal(16, 0);\n',
+     '    if (s->splits_per_pair > MAX_SPLITS) return refusal(17, 0);\n    if (!within(0.0, s->gap, MAX_GAP)) return refusal(16, 0);\n'),
+    ('15 of the first only', 'for (uint32_t k = 0; k < s->lines; k++)\n        if (!range_fits', 'for (uint32_t k = 0; k < 1; k++)\n        if (!range_fits'),
     ('18', 'if (!(breaks[i - 1] < t && t < breaks[i])) return 0;', 'if (!(breaks[i - 1] <= t && t < breaks[i])) return 0;'),
     ('18, upper', 'if (!(breaks[i - 1] < t && t < breaks[i])) return 0;', 'if (!(breaks[i - 1] < t && t <= breaks[i])) return 0;'),
-    ('18 on all knots', 'int n = fill_breaks(l, sheet->range[k], s->breaks[k]);',
-     'int n = fill_breaks(l, sheet->range[k], s->breaks[k]);\n        if (!breaks_have_middles(l->knots, (int)l->knot_count)) return refusal(18, k + 1);'),
+    ('18 on all knots', 'int n = fill_breaks(&s->line[k], breaks);',
+     'int n = fill_breaks(&s->line[k], breaks);\n        if (!breaks_have_middles(s->line[k].knots, (int)s->line[k].knot_count)) return refusal(18, k + 1);'),
     # pieces
     ('breaks at lo', 'if (range[0] < l->list[i] &&', 'if (range[0] <= l->list[i] &&'),
     ('span from the right', 'l->flat[s + 1] <= u) s++', 'l->flat[s + 1] < u - 1e-3) s++'),
@@ -229,13 +232,14 @@ EDITS = [
     ('corners of the first', 'r.f[4 + c] = least(hull[0].box[c], hull[1].box[c]);', 'r.f[4 + c] = hull[0].box[c];'),
     ('corners not united', 'for (int i = 0; i < 10; i++)\n        r.f[i] = high', 'r = *a;\n    for (int i = 0; i < 4; i++)\n        r.f[i] = high'),
     # closed lines
-    ('kind 8 read as kind 1', "    l->closed = w->at < w->count && w->words[w->at] >> 28 == KIND_CLOSED;\n    return take_head(w, l->closed ? KIND_CLOSED : KIND_LINE, &l->degree);",
-     "    int eight = w->at < w->count && w->words[w->at] >> 28 == KIND_CLOSED;\n    return take_head(w, eight ? KIND_CLOSED : KIND_LINE, &l->degree);"),
-    ('kind 1 read as kind 8', 'l->closed = w->at < w->count && w->words[w->at] >> 28 == KIND_CLOSED;', 'l->closed = 1;'),
-    ('kind 10 for kind 8', 'KIND_END, KIND_CLOSED, KIND_DATUM };', 'KIND_END, KIND_CLOSED = 10, KIND_DATUM = 9 };'),
-    ('kind 10 for kind 9', 'KIND_END, KIND_CLOSED, KIND_DATUM };', 'KIND_END, KIND_CLOSED, KIND_DATUM = 10 };'),
+    ('kind 8 read as kind 1', '    l->closed = next_kind(w) == KIND_CLOSED;\n    return take_head(w, l->closed ? KIND_CLOSED : KIND_LINE, &l->degree);',
+     '    l->closed = 0;\n    return take_head(w, next_kind(w) == KIND_CLOSED ? KIND_CLOSED : KIND_LINE, &l->degree);'),
+    ('kind 1 read as kind 8', 'l->closed = next_kind(w) == KIND_CLOSED;', 'l->closed = 1;'),
+    ('kind 10 for kind 8', 'KIND_END, KIND_CLOSED, KIND_DATUM, KIND_RANGE = 11 };', 'KIND_END, KIND_CLOSED = 10, KIND_DATUM = 9, KIND_RANGE = 11 };'),
+    ('kind 10 for kind 9', 'KIND_END, KIND_CLOSED, KIND_DATUM, KIND_RANGE = 11 };', 'KIND_END, KIND_CLOSED, KIND_DATUM = 10, KIND_RANGE = 11 };'),
     ('any kind for a line', '    return take_head(w, l->closed ? KIND_CLOSED : KIND_LINE, &l->degree);', '    return take_head(w, w->at < w->count ? w->words[w->at] >> 28 : KIND_LINE, &l->degree);'),
-    ('closed on the first line only', 'if (!no) no = take_line(&w, &s->line[1]);', 'if (!no) no = take_line(&w, &s->line[1]), s->line[1].closed = 0;'),
+    ('closed on the first line only', '    s->chart = level >= 105 && next_kind(w) == KIND_RANGE;\n',
+     '    s->line[1].closed = 0;\n    s->chart = level >= 105 && next_kind(w) == KIND_RANGE;\n'),
     ('22 before 7', '    if (!knots_rise(l)) return 7;\n    if (l->closed && !ends_alike(l)) return 22;\n', '    if (l->closed && !ends_alike(l)) return 22;\n    if (!knots_rise(l)) return 7;\n'),
     ('22 after 8', '    if (l->closed && !ends_alike(l)) return 22;\n    if (!mults_in_limits(l)) return 8;\n', '    if (!mults_in_limits(l)) return 8;\n    if (l->closed && !ends_alike(l)) return 22;\n'),
     ('22 after 9', '    if (l->closed && !ends_alike(l)) return 22;\n    if (!mults_in_limits(l)) return 8;\n    if (!mults_above_zero(l)) return 9;\n',
@@ -286,7 +290,7 @@ EDITS = [
     ('no wrap', '    i %= l->pole_count;\n', ''),
     ('the last pole stays', '    i %= l->pole_count;\n', '    i = i < l->pole_count ? i : l->pole_count - 1;\n'),
     ('weights not wrapped', '    i %= l->pole_count;\n    double w = l->rational ? l->weights[i] : 1.0;', '    double w = l->rational ? l->weights[i] : 1.0;\n    i %= l->pole_count;'),
-    ('127 pieces', 'int n = fill_breaks(l, sheet->range[k], s->breaks[k]);', 'int n = fill_breaks(l, sheet->range[k], s->breaks[k]);\n        if (n > MAX_KNOTS) return refusal(19, 0);'),
+    ('127 pieces', 'int n = fill_breaks(&s->line[k], breaks);', 'int n = fill_breaks(&s->line[k], breaks);\n        if (n > MAX_KNOTS) return refusal(19, 0);'),
     # stretch marks
     ('a turn of an open line', 'Turn t = { l->closed && range', 'Turn t = { range'),
     ('no whole turn', 'Turn t = { l->closed && range', 'Turn t = { 0 && range'),
@@ -327,7 +331,8 @@ EDITS = [
     ('groups numbered', '        marks[i] = lowest;\n', '        marks[i] = 0;\n        for (uint32_t k = 0; k < lowest; k++) marks[i] += marks[k] == k || k == 0 || !chained[k * n];\n'),
     ('the place for the mark', '        marks[i] = lowest;\n', '        marks[i] = (uint32_t)i;\n'),
     ('places before sorting', '    sort_regions(s->report, n);\n    mark_regions(s->turn, s->report, n, s->marks);\n', '    mark_regions(s->turn, s->report, n, s->marks);\n    sort_regions(s->report, n);\n'),
-    ('groups counted as regions', '    print_result(&search, report(&search));', '    { uint64_t n = report(&search), groups = 0;\n      for (uint64_t i = 0; i < n; i++) groups += search.marks[i] == i;\n      print_result(&search, groups); }'),
+    ('groups counted as regions', '    print_result(s, report(s));',
+     '    { uint64_t n = report(s), groups = 0;\n      for (uint64_t i = 0; i < n; i++) groups += s->marks[i] == i;\n      print_result(s, groups); }'),
     # tags
     ('plane said for box', 'gap)) return BY_BOX;', 'gap)) return BY_PLANE;'),
     ('line said for box', 'gap)) return BY_BOX;', 'gap)) return BY_LINE;'),
@@ -358,8 +363,8 @@ EDITS = [
     ('pairs set apart settled by box', 'if (boxes_apart(boxes[0][i], boxes[1][j], s->gap)) continue;', 'if (boxes_apart(boxes[0][i], boxes[1][j], s->gap)) {\n                s->by[BY_BOX]++;\n                s->settled++;\n                continue;\n            }'),
     ("the last sheet's tags kept", '    memset(s->by, 0, sizeof s->by);\n', ''),
     ('no tags', '    if (level >= 103) print_tags(s->by);\n', ''),
-    ('tags before settled', 'printf("%s pairs=%lu visits=%lu splits=%lu settled=%lu", word,\n           (unsigned long)s->pairs, (unsigned long)s->visits,\n           (unsigned long)s->splits, (unsigned long)s->settled);\n    if (level >= 103) print_tags(s->by);\n',
-     'printf("%s pairs=%lu visits=%lu splits=%lu", word, (unsigned long)s->pairs, (unsigned long)s->visits, (unsigned long)s->splits);\n    print_tags(s->by);\n    printf(" settled=%lu", (unsigned long)s->settled);\n'),
+    ('tags before settled', 'printf("%s pairs=%lu visits=%lu splits=%lu settled=%lu", verdict_word(s),\n           (unsigned long)s->pairs, (unsigned long)s->visits,\n           (unsigned long)s->splits, (unsigned long)s->settled);\n    if (level >= 103) print_tags(s->by);\n',
+     'printf("%s pairs=%lu visits=%lu splits=%lu", verdict_word(s), (unsigned long)s->pairs, (unsigned long)s->visits, (unsigned long)s->splits);\n    print_tags(s->by);\n    printf(" settled=%lu", (unsigned long)s->settled);\n'),
     ('tags after left', '    if (level >= 103) print_tags(s->by);\n    printf(" given=%lu left=%lu regions=%lu\\n", (unsigned long)s->given,\n           (unsigned long)s->waiting, (unsigned long)regions);\n',
      '    printf(" given=%lu left=%lu", (unsigned long)s->given, (unsigned long)s->waiting);\n    print_tags(s->by);\n    printf(" regions=%lu\\n", (unsigned long)regions);\n'),
     ('tags printed last', '    if (level >= 103) print_tags(s->by);\n    printf(" given=%lu left=%lu regions=%lu\\n", (unsigned long)s->given,\n           (unsigned long)s->waiting, (unsigned long)regions);\n',
@@ -370,6 +375,147 @@ EDITS = [
     ('tags over 0 only', 'for (int i = 0; i < TAGS; i++)\n        printf(" %s=%lu"', 'for (int i = 0; i < TAGS; i++)\n        if (by[i]) printf(" %s=%lu"'),
     ('tags of 8 bits', '(unsigned long)by[i]);', '(unsigned long)(by[i] & 0xFF));'),
     ('tags in hexadecimal', 'printf(" %s=%lu", name[i]', 'printf(" %s=%lX", name[i]'),
+    # charts (document 02, M-105): the walk
+    ('no line after the track gives 2', '    s->chart = level >= 105 && !line_follows(w);\n    if (s->chart) return 0;\n', ''),
+    ('no line after the track gives 24 at once', '    if (s->chart) return 0;\n', '    if (s->chart) return 24;\n'),
+    ('kind 11 makes no chart', 's->chart = level >= 105 && next_kind(w) == KIND_RANGE;', 's->chart = 0;'),
+    ('further lines of a pair sheet passed over', '    if (!s->chart) return 0;\n', '    if (!s->chart) {\n        while (!no && line_follows(w)) no = take_line(w, &s->line[MAX_CHART + 1]);\n        return no;\n    }\n'),
+    ('a third line makes a chart', 's->chart = level >= 105 && next_kind(w) == KIND_RANGE;\n    if (!s->chart) return 0;\n    no = take_range(w, &s->line[1]);',
+     's->chart = level >= 105 && (next_kind(w) == KIND_RANGE || line_follows(w));\n    if (!s->chart) return 0;\n    if (next_kind(w) == KIND_RANGE) no = take_range(w, &s->line[1]);'),
+    ('kind 11 after the track', '    s->chart = level >= 105 && !line_follows(w);\n', '    if (next_kind(w) == KIND_RANGE) no = take_range(w, &s->line[0]);\n    if (no) return no;\n    s->chart = level >= 105 && !line_follows(w);\n'),
+    ('kind 11 after the track gives 24', '    s->chart = level >= 105 && !line_follows(w);\n', '    if (next_kind(w) == KIND_RANGE) return 24;\n    s->chart = level >= 105 && !line_follows(w);\n'),
+    ('the third line without kind 11', '    return no ? no : take_range(w, l);', '    return no || next_kind(w) != KIND_RANGE ? no : take_range(w, l);'),
+    ('no kind 11 gives 3', '    return no ? no : take_range(w, l);', '    return no ? no : next_kind(w) == KIND_RANGE ? take_range(w, l) : 3;'),
+    ('count of kind 11', 'int no = take_bare(w, KIND_RANGE);', 'uint32_t count;\n    int no = take_head(w, KIND_RANGE, &count);'),
+    ('count of kind 11 of the third line on', '    return no ? no : take_range(w, l);', '    uint32_t count;\n    if (!no) no = take_head(w, KIND_RANGE, &count);\n    return no ? no : take_floats(w, 2, l->range);'),
+    ('count of kind 11 gives 3', 'int no = take_bare(w, KIND_RANGE);', 'int no = take_bare(w, KIND_RANGE);\n    if (no == 2 && w->words[w->at - 1] >> 28 == KIND_RANGE) no = 3;'),
+    ('count of kind 11 after its floats', '    int no = take_bare(w, KIND_RANGE);\n    return no ? no : take_floats(w, 2, l->range);',
+     '    uint32_t count;\n    int no = take_head(w, KIND_RANGE, &count);\n    if (!no) no = take_floats(w, 2, l->range);\n    return no ? no : count ? 2 : 0;'),
+    ('kind 11 as a kind of lo and hi by its count', '    int no = take_bare(w, KIND_RANGE);\n', '    uint32_t count;\n    int no = take_head(w, KIND_RANGE, &count);\n    if (!no && count != 0 && count != 2) no = 2;\n'),
+    ('kind 11 twice', '    return no ? no : take_floats(w, 2, l->range);', '    if (!no) no = take_floats(w, 2, l->range);\n    return no || next_kind(w) != KIND_RANGE ? no : take_range(w, l);'),
+    ('kind 11 before the datum too', '    if (!no) no = take_datum(w, l);\n', '    if (!no && next_kind(w) == KIND_RANGE) no = take_bare(w, KIND_RANGE) ? 2 : take_floats(w, 2, l->range);\n    if (!no) no = take_datum(w, l);\n'),
+    ('kind 10 for kind 11', 'KIND_DATUM, KIND_RANGE = 11 };', 'KIND_DATUM, KIND_RANGE };'),
+    ('hi before lo', '    return no ? no : take_floats(w, 2, l->range);', '    if (!no) no = take_floats(w, 2, l->range);\n    double lo = l->range[0];\n    l->range[0] = l->range[1];\n    l->range[1] = lo;\n    return no;'),
+    ('a closed line is no second line', 'return next_kind(w) == KIND_LINE || next_kind(w) == KIND_CLOSED;', 'return next_kind(w) == KIND_LINE;'),
+    ('closed lines end the chart', 'while (!no && line_follows(w)) no = take_chart_line', 'while (!no && next_kind(w) == KIND_LINE) no = take_chart_line'),
+    ('64 lines are walked', 'while (!no && line_follows(w)) no = take_chart_line', 'while (!no && line_follows(w) && s->lines <= MAX_CHART) no = take_chart_line'),
+    ('65 lines are walked', 'while (!no && line_follows(w)) no = take_chart_line', 'while (!no && line_follows(w) && s->lines <= MAX_CHART + 1) no = take_chart_line'),
+    ('the second range of kind 6 read', '    if (!s->chart) memcpy(s->line[1].range', '    if (s->lines > 1) memcpy(s->line[1].range'),
+    ('the second range of kind 6 for the last line', '    if (!s->chart) memcpy(s->line[1].range, q + 2, sizeof s->line[1].range);', '    if (s->lines > 1 && s->lines <= MAX_CHART + 1) memcpy(s->line[s->lines - 1].range, q + 2, sizeof s->line[1].range);'),
+    ('the second range of kind 6 must be 0, 0', '    if (!s->chart) memcpy', '    if (s->chart && (q[2] != 0.0 || q[3] != 0.0)) return 2;\n    if (!s->chart) memcpy'),
+    ('the second range of kind 6 must be finite', '    if (!s->chart) memcpy', '    if (s->chart && !(isfinite(q[2]) && isfinite(q[3]))) return 2;\n    if (!s->chart) memcpy'),
+    ('the second range of kind 6 must not fall', '    if (!s->chart) memcpy', '    if (s->chart && q[2] > q[3]) return 2;\n    if (!s->chart) memcpy'),
+    ("the track's range for all lines", '    if (!s->chart) memcpy', '    for (uint32_t k = 1; s->chart && k < s->lines && k <= MAX_CHART; k++) memcpy(s->line[k].range, q, sizeof s->line[k].range);\n    if (!s->chart) memcpy'),
+    ("the first line's range for all lines", '    if (!s->chart) memcpy', '    for (uint32_t k = 2; k < s->lines && k <= MAX_CHART; k++) memcpy(s->line[k].range, s->line[1].range, sizeof s->line[k].range);\n    if (!s->chart) memcpy'),
+    ("the last line's range for the track", '    s->gap = q[4];\n', '    if (s->chart && s->lines > 1 && s->lines <= MAX_CHART + 1) memcpy(s->line[0].range, s->line[s->lines - 1].range, sizeof s->line[0].range);\n    s->gap = q[4];\n'),
+    # 24
+    ('65 lines', 's->lines <= MAX_CHART + 1);', 's->lines <= MAX_CHART + 2);'),
+    ('63 lines', 's->lines <= MAX_CHART + 1);', 's->lines <= MAX_CHART);'),
+    ('no lines', '(s->lines >= 2 && s->lines <=', '(s->lines <='),
+    ('one line is too few', '(s->lines >= 2 && s->lines <=', '(s->lines > 2 && s->lines <='),
+    ('lines counted in 8 bits', '(s->lines >= 2 && s->lines <= MAX_CHART + 1);', '((uint8_t)(s->lines - 1) >= 1 && (uint8_t)(s->lines - 1) <= MAX_CHART);'),
+    ('24 before 3', '    if (!no) no = take_question(&w, s);\n', '    if (!no && !chart_fits(s)) return 24;\n    if (!no) no = take_question(&w, s);\n',
+     '/* ---- Sheet walk: numbers', 'static int chart_fits(const Sheet *);\n\n/* ---- Sheet walk: numbers'),
+    ('24 at the 65th line', 'while (!no && line_follows(w)) no = take_chart_line', 'while (!no && line_follows(w)) no = s->lines > MAX_CHART ? 24 : take_chart_line'),
+    ('24 before what follows the end', '    return w->at == w->count ? 0 : 3;', '    return w->at == w->count || s->lines > MAX_CHART + 1 || s->lines < 2 ? 0 : 3;', 'static int take_end(Walk *w)', 'static int take_end(Walk *w, const Sheet *s)', 'no = take_end(&w);', 'no = take_end(&w, s);'),
+    ('24 after the admission', '    if (!r.number && !chart_fits(sheet)) r = refusal(24, 0);\n    if (!r.number) r = admit(sheet);\n', '    if (!r.number) r = admit(sheet);\n    if (!r.number && !chart_fits(sheet)) r = refusal(24, 0);\n',
+     'for (uint32_t k = 0; k < s->lines; k++) {\n        Line *l', 'for (uint32_t k = 0; k < s->lines && k <= MAX_CHART; k++) {\n        Line *l'),
+    ("24 after the track's admission", '    if (!r.number && !chart_fits(sheet)) r = refusal(24, 0);\n', '    if (!r.number && line_fault(&sheet->line[0])) r = refusal(line_fault(&sheet->line[0]), 1);\n    if (!r.number && !chart_fits(sheet)) r = refusal(24, 0);\n'),
+    ('24 as 2', 'refusal(24, 0);', 'refusal(2, 0);'),
+    ('24 with 1', 'refusal(24, 0);', 'refusal(24, 1);'),
+    ('24 with the place of the line too many', 'refusal(24, 0);', 'refusal(24, sheet->lines > 2 ? MAX_CHART + 2 : 0);'),
+    # the order of the tests, and places
+    ("23 before the line's 14", 'int no = line_fault(l);', 'int no = line_fault(l);\n        if (k > 1 && !one_datum(s->line[0].datum, l->datum)) return refusal(23, k + 1);'),
+    ("23 between the line's 13 and 14", 'int no = line_fault(l);', 'int no = line_fault(l);\n        if (k > 1 && no == 14 && !one_datum(s->line[0].datum, l->datum)) return refusal(23, k + 1);'),
+    ('23 after all lines', '        if (k > 0 && !one_datum(s->line[0].datum, l->datum))\n            return refusal(23, k + 1);\n', '',
+     '        fill_list(l);\n    }\n    return refusal(0, 0);', '        fill_list(l);\n    }\n    for (uint32_t k = 1; k < s->lines; k++)\n        if (!one_datum(s->line[0].datum, s->line[k].datum)) return refusal(23, k + 1);\n    return refusal(0, 0);'),
+    ("23 of the track's span before the lines", 'int no = line_fault(l);', 'int no = line_fault(l);\n        if (!no && k == 0 && !datum_in_span(l->datum)) return refusal(23, 2);'),
+    ('23 of the first line only', 'if (k > 0 && !one_datum', 'if (k == 1 && !one_datum'),
+    ('23 of all lines but the last', 'if (k > 0 && !one_datum', 'if (k > 0 && (k == 1 || k + 1 < s->lines) && !one_datum'),
+    ('23 with 2', 'return refusal(23, k + 1);', 'return refusal(23, 2);'),
+    ("23 with the track's place", 'return refusal(23, k + 1);', 'return refusal(23, k > 1 ? 1 : 2);'),
+    ('23 of a line outside the span is the first', 'one_datum(s->line[0].datum, l->datum)', 'one_datum(k > 1 ? l->datum : s->line[0].datum, l->datum)'),
+    ('admission of all lines but the last', 'if (no) return refusal(no, k + 1);', 'if (no && (k < 2 || k + 1 < s->lines)) return refusal(no, k + 1);\n        if (no) memcpy(l, &s->line[0], sizeof *l);'),
+    ('the lines before the track', 'if (no) return refusal(no, k + 1);', 'if (no && k == 0)\n            for (uint32_t j = 1; j < s->lines; j++)\n                if (s->chart && line_fault(&s->line[j])) return refusal(line_fault(&s->line[j]), j + 1);\n        if (no) return refusal(no, k + 1);'),
+    ('the least number of all lines', 'if (no) return refusal(no, k + 1);', 'for (uint32_t j = k + 1; no && s->lines > 2 && j < s->lines; j++)\n            if (line_fault(&s->line[j]) && line_fault(&s->line[j]) < no) return refusal(line_fault(&s->line[j]), j + 1);\n        if (no) return refusal(no, k + 1);'),
+    ("the track's place is 0", 'if (no) return refusal(no, k + 1);', 'if (no) return refusal(no, s->chart && k == 0 ? 0 : k + 1);'),
+    ("the track's place is 0 for 15", 'return refusal(15, k + 1);', 'return refusal(15, s->chart && k == 0 ? 0 : k + 1);'),
+    ("the track's place is 0 for 18", 'return refusal(18, k + 1);', 'return refusal(18, s->chart && k == 0 ? 0 : k + 1);'),
+    ('places of the lines from 1', 'if (no) return refusal(no, k + 1);', 'if (no) return refusal(no, s->chart && k > 0 ? k : k + 1);'),
+    ('every line is the second', 'if (no) return refusal(no, k + 1);', 'if (no) return refusal(no, k > 0 ? 2 : 1);'),
+    ('every line is the second for 15', 'return refusal(15, k + 1);', 'return refusal(15, k > 0 ? 2 : 1);'),
+    ('every line is the second for 18', 'return refusal(18, k + 1);', 'return refusal(18, k > 0 ? 2 : 1);'),
+    ('places of one digit', '(unsigned long)r.place);', '(unsigned long)r.place % 10);'),
+    ('places of six bits', '(unsigned long)r.place);', '(unsigned long)(r.place & 63));'),
+    ('15 of the first line only', '        if (!range_fits(&s->line[k])) return', '        if (k < 2 && !range_fits(&s->line[k])) return'),
+    ('15 of all lines but the last', '        if (!range_fits(&s->line[k])) return', '        if ((k < 2 || k + 1 < s->lines) && !range_fits(&s->line[k])) return'),
+    ('15 of the lines before the track', 'for (uint32_t k = 0; k < s->lines; k++)\n        if (!range_fits', 'for (uint32_t k = 1; s->chart && k < s->lines; k++)\n        if (!range_fits(&s->line[k])) return refusal(15, k + 1);\n    for (uint32_t k = 0; k < s->lines; k++)\n        if (!range_fits'),
+    ('15 to 18 whole for each line', '    double breaks[MAX_BREAKS];\n', '    double breaks[MAX_BREAKS];\n    for (uint32_t k = 0; s->chart && k < s->lines; k++) {\n        if (!range_fits(&s->line[k])) return refusal(15, k + 1);\n        if (k == 0) continue;\n'
+     '        if (!within(0.0, s->gap, MAX_GAP)) return refusal(16, 0);\n        if (s->splits_per_pair > MAX_SPLITS) return refusal(17, 0);\n'
+     '        if (k == 1 && !breaks_have_middles(breaks, fill_breaks(&s->line[0], breaks))) return refusal(18, 1);\n        if (!breaks_have_middles(breaks, fill_breaks(&s->line[k], breaks))) return refusal(18, k + 1);\n    }\n'),
+    ('15 and 18 together for each line', '    for (uint32_t k = 0; k < s->lines; k++)\n        if (!range_fits', '    for (uint32_t k = 0; s->chart && k < s->lines; k++) {\n        if (!range_fits(&s->line[k])) return refusal(15, k + 1);\n'
+     '        if (!breaks_have_middles(breaks, fill_breaks(&s->line[k], breaks))) return refusal(18, k + 1);\n    }\n    for (uint32_t k = 0; k < s->lines; k++)\n        if (!range_fits'),
+    ('all tests of a line before the next', '        fill_list(l);\n    }\n    return', '        fill_list(l);\n        if (s->chart && k > 0) {\n            Sheet *one = malloc(sizeof *one);\n            Refusal r;\n            *one = *s;\n            one->lines = 2;\n            one->line[1] = *l;\n'
+     '            r = ask(one);\n            free(one);\n            if (r.number) return refusal(r.number, r.place == 2 ? k + 1 : r.place);\n        }\n    }\n    return', 'static Refusal admit(', 'static Refusal ask(const Sheet *);\n\nstatic Refusal admit('),
+    ("15 with the line's admission", '        fill_flat(l);\n        fill_list(l);\n    }\n    return', '        fill_flat(l);\n        fill_list(l);\n        if (s->chart && !range_fits(l)) return refusal(15, k + 1);\n    }\n    return'),
+    ("16 and 17 between the track's 15 and the lines'", '        if (!range_fits(&s->line[k])) return', '        if (s->chart && k == 1 && !within(0.0, s->gap, MAX_GAP)) return refusal(16, 0);\n        else if (s->chart && k == 1 && s->splits_per_pair > MAX_SPLITS) return refusal(17, 0);\n        else if (!range_fits(&s->line[k])) return'),
+    ("16 and 17 before the third line's 15", '        if (!range_fits(&s->line[k])) return', '        if (k == 2 && !within(0.0, s->gap, MAX_GAP)) return refusal(16, 0);\n        else if (k == 2 && s->splits_per_pair > MAX_SPLITS) return refusal(17, 0);\n        else if (!range_fits(&s->line[k])) return'),
+    ('18 of the first line only', '        if (!breaks_have_middles(breaks, n)) return', '        if (k < 2 && !breaks_have_middles(breaks, n)) return'),
+    ('18 of all lines but the last', '        if (!breaks_have_middles(breaks, n)) return', '        if ((k < 2 || k + 1 < s->lines) && !breaks_have_middles(breaks, n)) return'),
+    ("18 of the lines before the track's", '    for (uint32_t k = 0; k < s->lines; k++) {\n        int n', '    for (uint32_t k = 1; s->chart && k < s->lines; k++)\n        if (!breaks_have_middles(breaks, fill_breaks(&s->line[k], breaks))) return refusal(18, k + 1);\n    for (uint32_t k = 0; k < s->lines; k++) {\n        int n'),
+    ('18 with a 0', 'return refusal(18, k + 1);', 'return refusal(18, s->chart ? 0 : k + 1);'),
+    # 19
+    ('19 of no line is found first', 'if (open_search(s, sheet, k)) return refusal(19, 0);', 'if (!sheet->chart && open_search(s, sheet, k)) return refusal(19, 0);',
+     '    open_search(s, sheet, k);\n    while', '    if (open_search(s, sheet, k)) {\n        printf("refused 19 0\\n");\n        return 0;\n    }\n    while'),
+    ('19 of the first line is found first', 'if (open_search(s, sheet, k)) return refusal(19, 0);', 'if (k == 1 && open_search(s, sheet, k)) return refusal(19, 0);',
+     '    open_search(s, sheet, k);\n    while', '    if (open_search(s, sheet, k)) {\n        printf("refused 19 0\\n");\n        return 0;\n    }\n    while'),
+    ('a line without room left out', 'if (open_search(s, sheet, k)) return refusal(19, 0);', 'if (k == 1 && open_search(s, sheet, k)) return refusal(19, 0);',
+     '    open_search(s, sheet, k);\n    while', '    if (open_search(s, sheet, k)) return 1;\n    while'),
+    ('19 of the last line is found first', 'if (open_search(s, sheet, k)) return refusal(19, 0);', 'if (k + 1 == sheet->lines && open_search(s, sheet, k)) return refusal(19, 0);',
+     '    open_search(s, sheet, k);\n    while', '    if (open_search(s, sheet, k)) {\n        printf("refused 19 0\\n");\n        return 0;\n    }\n    while'),
+    ("19 with the line's place", 'return refusal(19, 0);', 'return refusal(19, sheet->chart ? k + 1 : 0);'),
+    ("19 before the next line's 18", '    if (!r.number) r = ask(sheet);\n    if (!r.number) r = find_room(sheet, s);\n',
+     '    if (!r.number) r = ask(sheet);\n    for (uint32_t k = 1; sheet->chart && r.number == 18 && k + 1 < r.place; k++)\n        if (open_search(s, sheet, k)) r = refusal(19, 0);\n    if (!r.number) r = find_room(sheet, s);\n'),
+    ("19 before the next line's 15", '    if (!r.number) r = ask(sheet);\n    if (!r.number) r = find_room(sheet, s);\n',
+     '    if (!r.number) r = ask(sheet);\n    for (uint32_t k = 1; sheet->chart && r.number == 15 && k + 1 < r.place; k++)\n        if (open_search(s, sheet, k)) r = refusal(19, 0);\n    if (!r.number) r = find_room(sheet, s);\n'),
+    ('pairs of all lines together', '    for (uint32_t k = 1; k < sheet->lines; k++)\n        if (open_search(s, sheet, k)) return refusal(19, 0);\n',
+     '    uint64_t all = 0;\n    for (uint32_t k = 1; k < sheet->lines; k++)\n        if (open_search(s, sheet, k) || (all += s->pairs) > 12) return refusal(19, 0);\n'),
+    ('regions of all lines together', '    for (uint32_t k = 1; k < sheet->lines; k++)\n        if (open_search(s, sheet, k)) return refusal(19, 0);\n',
+     '    uint64_t all = 0;\n    for (uint32_t k = 1; k < sheet->lines; k++)\n        if (open_search(s, sheet, k) || (all += s->pairs * (sheet->splits_per_pair + 1)) > LENT_MARKS) return refusal(19, 0);\n'),
+    # reports and the last line
+    ('one complete report is enough', 'int complete = 1;', 'int complete = 0;', 'complete &= print_report', 'complete |= print_report'),
+    ('the first report decides', 'complete &= print_report(&sheet, &search, k);', 'complete &= print_report(&sheet, &search, k) || k > 1;'),
+    ('the last report decides', 'complete &= print_report', 'complete = print_report'),
+    ('out of allowance is complete', 'return s->waiting == 0 && s->given == 0;', 'return s->given == 0;'),
+    ('given up is complete', 'return s->waiting == 0 && s->given == 0;', 'return s->waiting == 0;'),
+    ('no pairs is incomplete', 'return s->waiting == 0 && s->given == 0;', 'return s->waiting == 0 && s->given == 0 && s->pairs > 0;'),
+    ('complete without splits', 'return s->waiting == 0 && s->given == 0;', 'return s->splits == 0 && s->given == 0;'),
+    ('always complete', 'complete ? "complete" : "incomplete"', 'complete || 1 ? "complete" : "incomplete"'),
+    ('always incomplete', 'complete ? "complete" : "incomplete"', 'complete && 0 ? "complete" : "incomplete"'),
+    ('no last line', '    if (sheet.chart) printf("chart %s\\n", complete ? "complete" : "incomplete");\n', ''),
+    ('no last line of one line', 'if (sheet.chart) printf("chart', 'if (sheet.chart && sheet.lines > 2) printf("chart'),
+    ('a last line of a pair', 'if (sheet.chart) printf("chart', 'printf("chart'),
+    ('the last line first', '    if (sheet.chart) printf("chart %s\\n", complete ? "complete" : "incomplete");\n', '',
+     '    for (uint32_t k = 1; k < sheet.lines; k++)\n        complete', '    for (uint32_t k = 1; k < sheet.lines; k++) {\n        open_search(&search, &sheet, k);\n        while (!search.ended) step(&search);\n'
+     '        complete &= search.waiting == 0 && search.given == 0;\n    }\n    if (sheet.chart) printf("chart %s\\n", complete ? "complete" : "incomplete");\n    for (uint32_t k = 1; k < sheet.lines; k++)\n        complete'),
+    ('"chart budget"', '"complete" : "incomplete"', '"complete" : "budget"'),
+    ('the last line without "chart"', 'printf("chart %s\\n"', 'printf("%s\\n"'),
+    ('reports from the last', 'complete &= print_report(&sheet, &search, k);', 'complete &= print_report(&sheet, &search, sheet.lines - k);'),
+    ('the reports end at one that is not complete', 'complete &= print_report(&sheet, &search, k);', 'if (complete) complete &= print_report(&sheet, &search, k);'),
+    ('no report without pairs', '    print_result(s, report(s));', '    if (!sheet->chart || s->pairs > 0) print_result(s, report(s));'),
+    ('no report of a complete line', '    print_result(s, report(s));', '    if (!sheet->chart || s->given + s->waiting > 0) print_result(s, report(s));'),
+    ('a blank line between the reports', 'complete &= print_report(&sheet, &search, k);', '{\n            if (k > 1) printf("\\n");\n            complete &= print_report(&sheet, &search, k);\n        }'),
+    ('a head before each report', '    print_result(s, report(s));', '    if (sheet->chart) printf("line %lu\\n", (unsigned long)k + 1);\n    print_result(s, report(s));'),
+    ('the opening that was tested last kept for the first line', '    open_search(s, sheet, k);\n    while', '    if (k > 1) open_search(s, sheet, k);\n    while'),
+    ('the first line searched for all', '    open_search(s, sheet, k);\n    while', '    open_search(s, sheet, 1);\n    while'),
+    ('each line against the one before', 'const Line *l = &sheet->line[i == 0 ? 0 : k];', 'const Line *l = &sheet->line[i == 0 ? k - 1 : k];'),
+    ('the line before the track', 'const Line *l = &sheet->line[i == 0 ? 0 : k];', 'const Line *l = &sheet->line[sheet->chart ? (i == 0 ? k : 0) : i];'),
+    ("the first line's turn for all", 's->turn[i] = turn_of(l);', 's->turn[i] = turn_of(&sheet->line[i]);'),
+    ('one allowance for the chart', 's->unspent = sheet->splits_per_pair * s->pairs;', 's->unspent = k == 1 ? sheet->splits_per_pair * s->pairs : s->unspent;', 'if (!r.number) r = find_room(sheet, s);', 'if (!r.number) r = find_room(sheet, s);\n    s->unspent = 0;'),
+    ("the first line's allowance for each", 's->unspent = sheet->splits_per_pair * s->pairs;', 'static uint64_t first;\n    if (k == 1) first = s->pairs;\n    s->unspent = sheet->splits_per_pair * first;'),
+    ('counts go on', '    s->visits = s->splits = s->settled = s->given = s->waiting = 0;\n', '    if (k == 1) s->visits = 0;\n    s->splits = s->settled = s->given = s->waiting = 0;\n'),
+    ('marks go on', '(unsigned long)s->marks[i]);\n        printf("\\n");\n    }\n', '(unsigned long)s->marks[i] + before);\n        printf("\\n");\n    }\n    before += regions;\n',
+     'static void print_result', 'static uint64_t before;\n\nstatic void print_result', '    int complete = 1;\n', '    int complete = 1;\n    before = 0;\n'),
     # printing
     ('no mark', 'if (level >= 101) printf(" %lu", (unsigned long)s->marks[i]);', ''),
     ('mark without a space', 'printf(" %lu", (unsigned long)s->marks[i]);', 'printf("%lu", (unsigned long)s->marks[i]);'),
@@ -378,7 +524,8 @@ EDITS = [
     ('mark of two digits', 'printf(" %lu", (unsigned long)s->marks[i]);', 'printf(" %lu", (unsigned long)s->marks[i] % 100);'),
     ('mark of the next region', '(unsigned long)s->marks[i]);', '(unsigned long)s->marks[i + 1 < regions ? i + 1 : i]);'),
     ('-0 printed', '    if (x == 0.0) bits = 0;\n', ''),
-    ('unseparated before budget', 'if (s->waiting > 0)\n        word = "budget";\n    else if (s->given > 0)\n        word = "unseparated";', 'if (s->given > 0)\n        word = "unseparated";\n    else if (s->waiting > 0)\n        word = "budget";'),
+    ('unseparated before budget', 'if (s->waiting > 0) return "budget";\n    return s->given > 0 ? "unseparated" : "complete";',
+     'if (s->given > 0) return "unseparated";\n    return s->waiting > 0 ? "budget" : "complete";'),
 ]
 
 # Mistakes that no sheet can show, each with the reason.
@@ -391,9 +538,21 @@ ALIKE = [
     ('box only of halves', 's->by[v]++;', 's->by[v == BY_BOX && s->depths[top] == 0 ? BY_PLANE : v]++;'),
     # equal data are within the span together
     ('span of the first datum alone', 'return datum_in_span(first) && datum_in_span(second) && first == second;', 'return datum_in_span(first) && first == second;'),
+    # every line before has the track's datum
+    ('23 against the line before', 'one_datum(s->line[0].datum, l->datum)', 'one_datum(s->line[k - 1].datum, l->datum)'),
+    # a third line of a pair sheet has no range before it: 2, as kind 11 missing is
+    ('a third line for kind 11', 's->chart = level >= 105 && next_kind(w) == KIND_RANGE;', 's->chart = level >= 105 && (next_kind(w) == KIND_RANGE || line_follows(w));'),
     # place takes the span's start for any value outside the span, so for any outside the turn
     ('in_period without "first where"', 'return start_unless(first_knot(l), last_knot(l), u - period(l) * turns);', 'return u - period(l) * turns;'),
 ]
+
+
+def edited(text, name, pairs):
+    for old, new in zip(pairs[::2], pairs[1::2]):
+        if text.count(old) != 1:
+            sys.exit('%s: the text is there %d times' % (name, text.count(old)))
+        text = text.replace(old, new)
+    return text
 
 
 def build(text, folder, name):
@@ -427,8 +586,8 @@ def stored(folders):
 
 
 def generated(seed, count):
-    listed = [d for _, d in sheets.drawn_up_to(104)]
-    listed += [d for _, d in sheets.random_sheets(seed, count, 104)]
+    listed = [d for _, d in sheets.drawn_up_to(105)]
+    listed += [d for _, d in sheets.random_sheets(seed, count, 105)]
     return b''.join(sheets.packed(d) for d in listed)
 
 
@@ -446,10 +605,8 @@ def main(args):
     bad = 0
     with tempfile.TemporaryDirectory() as folder:
         right = answers(build(text, folder, 'right'), data)
-        for i, (name, old, new) in enumerate(EDITS + ALIKE):
-            if text.count(old) != 1:
-                sys.exit('%s: the text is there %d times' % (name, text.count(old)))
-            at = shown(build(text.replace(old, new), folder, 'e%d' % i), data, right)
+        for i, (name, *pairs) in enumerate(EDITS + ALIKE):
+            at = shown(build(edited(text, name, pairs), folder, 'e%d' % i), data, right)
             if (at is None) == (i < len(EDITS)):
                 print(('not seen: ' if at is None else 'seen, by sheet %d: ' % at) + name)
                 bad += 1

@@ -119,10 +119,10 @@ bounds15 l lo hi ok = same to from (of-not (rangeFits (l .closed) (boundsOf l) l
     from (inr (inr (inr (inl n)))) t = n (t .1 .0)
     from (inr (inr (inr (inr n)))) t = ends-not (l .closed) (boundsOf l) lo hi (t .1 .1) n
 
-test16 : (gap : Float) → Tests (Fault16 gap) (not (within zero64 two24 gap))
+pub test16 : (gap : Float) → Tests (Fault16 gap) (not (within zero64 two24 gap))
 test16 gap = of-not (within zero64 two24 gap) (of-gap gap)
 
-test18 : (l : Line) (lo hi : Float) → Tests (Fault18 l lo hi) (not (eachTwo parted (breaksOf l lo hi)))
+pub test18 : (l : Line) (lo hi : Float) → Tests (Fault18 l lo hi) (not (eachTwo parted (breaksOf l lo hi)))
 unfolding parted
 test18 l lo hi =
     of-two (λ t0 t1. T (lt t0 (middle t0 t1)) × T (lt (middle t0 t1) t1) → ⊥) parted
@@ -143,7 +143,7 @@ unfolding boundsIn
 by-knots true degree knots mults lo hi = (λ x. x, λ x. x)
 by-knots false degree knots mults lo hi = (λ x. x, λ x. x)
 
-test15 : (l : Line) (lo hi : Float) → admitOf l ≡ Admitted → Tests (Fault15 l lo hi) (not (rangeFits (l .closed) (boundsOf l) lo hi))
+pub test15 : (l : Line) (lo hi : Float) → admitOf l ≡ Admitted → Tests (Fault15 l lo hi) (not (rangeFits (l .closed) (boundsOf l) lo hi))
 test15 l lo hi ok = same to from (bounds15 l lo hi ok)
   where
     to : Bounds15 l lo hi → Fault15 l lo hi

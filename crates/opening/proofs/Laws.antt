@@ -25,6 +25,7 @@ use Rattle.knots.specs.Knots.{boundsOf, breaksOf, boundsIn, unrolledOf}
 use Rattle.curves.specs.Curves.{pieceCount, countIn}
 use Rattle.lines.specs.Lines.{Question, Line}
 use Rattle.lines.specs.Data.{oneDatum}
+use Rattle.pairs.specs.BoxLists.{boxesFrom, HoldsBoxes}
 use Rattle.pairs.specs.Nodes.{HasPieces}
 use Rattle.pairs.specs.Pairs.{Pieces, pieces, pairsFrom, nets1Of, nets2Of, rangesOf, depthsOf}
 use Rattle.states.specs.declared.State.{State}
@@ -32,9 +33,9 @@ use Rattle.terms.specs.declared.Terms.{Terms}
 use Rattle.states.specs.States.{Memory, memory, Sizes, sizes, needed, enough, firstState}
 use Rattle.states.proofs.Tests.{room-all}
 use Rattle.opening.specs.declared.Opened.{Opened}
-use Rattle.opening.specs.declared.Opened.the-variants.{Open, BadLine, BadDatum, BadQuestion, NoRoom}
-use Rattle.opening.specs.Asked.{pushedPairs, start, stateOf}
-use Rattle.opening.specs.Opens.{termsOf, searchFor, isAdmitted, isFine, piecesFit, piecesIn, pushing, pushDef, pushPairs, Opening, opening, openPieces, openDef}
+use Rattle.opening.specs.declared.Opened.the-variants.{Open, BadDatum, NoRoom}
+use Rattle.opening.specs.Asked.{pushedPairs, pairsOf, start, stateOf}
+use Rattle.opening.specs.Opens.{termsOf, searchFor, isAdmitted, isFine, piecesIn, pushing, pushDef, pushPairs, opening, openPieces, openDef}
 use Rattle.opening.proofs.Pushed.{one, other, numbered, pairs-are, memory-is}
 
 -- so many pairs as pieces allow
@@ -68,32 +69,37 @@ module _ (S : ℕ) (gap : Float) (t : Terms) (p q : Pieces) (n1 n2 : ℕ) (u : M
       rw (subst (λ (y : State). enough (needed y) (sizes u) ≡ true) state-is e)
       (λ i. pushing (Open (state-is i)) (memory (ea i) (eb i) (er i) (ed i) (u .raw)))
 
+-- ---- the state of the fresh search, by P
+pub start-state : (q : Question) → firstState (pairsOf (searchFor q)) (q .splits) (q .line1 .degree + 1) (q .line2 .degree + 1) (q .gap) (termsOf q) ≡ stateOf (searchFor q) (start (searchFor q))
+start-state q =
+    let n = pairsOf (searchFor q) in
+    let w = sym (length-reverse (pushedPairs (searchFor q))) in
+    λ i. record {
+      tally = record {
+        pairs = n;
+        quota = q .splits;
+        waiting = w i;
+        visits = 0;
+        splits = 0;
+        unspent = q .splits * n;
+        settled = 0;
+        boxes = 0;
+        planes = 0;
+        lines = 0;
+        given = 0;
+        stopped = false;
+      };
+      width1 = q .line1 .degree + 1;
+      width2 = q .line2 .degree + 1;
+      gap = q .gap;
+      terms = termsOf q;
+    }
+
 -- ---- pushed by the numbers of the pieces, or as the machine has it
 module _ (q : Question) (p1 p2 : List Float) (u : Memory) where
   fresh-state : firstState (length (numbered q p1 p2)) (q .splits) (q .line1 .degree + 1) (q .line2 .degree + 1) (q .gap) (termsOf q) ≡ stateOf (searchFor q) (start (searchFor q))
   fresh-state =
-      let e = sym (pairs-are q p1 p2) in
-      let w = e ∙ sym (length-reverse (pushedPairs (searchFor q))) in
-      λ i. record {
-        tally = record {
-          pairs = e i;
-          quota = q .splits;
-          waiting = w i;
-          visits = 0;
-          splits = 0;
-          unspent = q .splits * e i;
-          settled = 0;
-          boxes = 0;
-          planes = 0;
-          lines = 0;
-          given = 0;
-          stopped = false;
-        };
-        width1 = q .line1 .degree + 1;
-        width2 = q .line2 .degree + 1;
-        gap = q .gap;
-        terms = termsOf q;
-      }
+      ap (λ (n : ℕ). firstState n (q .splits) (q .line1 .degree + 1) (q .line2 .degree + 1) (q .gap) (termsOf q)) (sym (pairs-are q p1 p2)) ∙ start-state q
 
   pub push-is : pushPairs (q .splits) (q .gap) (termsOf q) (one q p1 p2) (other q p1 p2) (pieceCount (q .line1) (q .lo1) (q .hi1))
       (pieceCount (q .line2) (q .lo2) (q .hi2)) u ≡ pushDef (searchFor q) u
@@ -115,31 +121,46 @@ module _ (q : Question) (p1 p2 : List Float) (u : Memory) where
       (pieceCount (q .line1) (q .lo1) (q .hi1)) (pieceCount (q .line2) (q .lo2) (q .hi2)) u) ∙ push-is in
       λ i. opening (f i .answer) (ea i) (eb i) (f i .memory)
 
-  -- ---- the tests, one a return
-  abbrev pub OneDatum : Bool → Type 0
-  OneDatum b = (oneDatum (q .line1 .datum) (q .line2 .datum) ≡ b)
-
-  pub bad-first : isAdmitted (admitOf (q .line1)) ≡ false → opening (BadLine 1 (admitOf (q .line1))) p1 p2 u ≡ openDef q p1 p2 u
-  bad-first e = rw e refl
-
-  pub bad-second : isAdmitted (admitOf (q .line1)) ≡ true → isAdmitted (admitOf (q .line2)) ≡ false
-      → opening (BadLine 2 (admitOf (q .line2))) p1 p2 u ≡ openDef q p1 p2 u
-  bad-second e f = rw (e, f) refl
-
-  pub bad-datum : isAdmitted (admitOf (q .line1)) ≡ true → isAdmitted (admitOf (q .line2)) ≡ true → OneDatum false → opening BadDatum p1 p2 u ≡ openDef q p1 p2 u
+  -- 23
+  pub bad-datum : isAdmitted (admitOf (q .line1)) ≡ true → isAdmitted (admitOf (q .line2)) ≡ true → oneDatum (q .line1 .datum) (q .line2 .datum) ≡ false
+      → opening BadDatum p1 p2 u ≡ openDef q p1 p2 u
   bad-datum e f n = rw (e, f, n) refl
 
-  pub bad-question : isAdmitted (admitOf (q .line1)) ≡ true → isAdmitted (admitOf (q .line2)) ≡ true → OneDatum true → isFine (askOf q) ≡ false
-      → opening (BadQuestion (askOf q)) p1 p2 u ≡ openDef q p1 p2 u
-  bad-question e f n g = rw (e, f, n, g) refl
+-- ---- P, counted in the slices that hold the pieces
+module _ (q : Question) (p1 p2 a b : List Float) (n : ℕ) (ea : a ≡ piecesIn (q .line1) (q .lo1) (q .hi1) p1) (eb : b ≡ piecesIn (q .line2) (q .lo2) (q .hi2) p2) where
+  abbrev inSlices : ℕ
+  inSlices =
+      length (pairsFrom (q .gap) (pieces (q .line1 .degree + 1) a (breaksOf (q .line1) (q .lo1) (q .hi1))) (pieces (q .line2 .degree + 1) b (breaksOf (q .line2) (q .lo2) (q .hi2)))
+      (pieceCount (q .line2) (q .lo2) (q .hi2)) (pieceCount (q .line1) (q .lo1) (q .hi1)) 0)
 
-  pub no-room : isAdmitted (admitOf (q .line1)) ≡ true → isAdmitted (admitOf (q .line2)) ≡ true → OneDatum true → isFine (askOf q) ≡ true
-      → piecesFit q p1 p2 ≡ false → opening NoRoom p1 p2 u ≡ openDef q p1 p2 u
-  no-room e f n g h = rw (e, f, n, g, h) refl
+  in-slices : inSlices ≡ pairsOf (searchFor q)
+  in-slices =
+      (λ i. length (pairsFrom (q .gap) (pieces (q .line1 .degree + 1) (ea i) (breaksOf (q .line1) (q .lo1) (q .hi1)))
+      (pieces (q .line2 .degree + 1) (eb i) (breaksOf (q .line2) (q .lo2) (q .hi2))) (pieceCount (q .line2) (q .lo2) (q .hi2)) (pieceCount (q .line1) (q .lo1) (q .hi1)) 0))
+      ∙ sym (pairs-are q p1 p2)
 
-  pub opened-is : isAdmitted (admitOf (q .line1)) ≡ true → isAdmitted (admitOf (q .line2)) ≡ true → OneDatum true → isFine (askOf q) ≡ true → piecesFit q p1 p2 ≡ true
-      → (r : Opening) → r ≡ openPieces q p1 p2 u → r ≡ openDef q p1 p2 u
-  opened-is e f n g h r k = k ∙ rw (e, f, n, g, h) refl
+  pub pairs-told : n ≡ inSlices → n ≡ pairsOf (searchFor q)
+  pairs-told e = e ∙ in-slices
+
+  pub pairs-held : n ≡ pairsOf (searchFor q) → n ≡ inSlices
+  pairs-held e = e ∙ sym in-slices
+
+-- the boxes of n pieces, by equal numbers
+pub holds-as : {w v n m : ℕ} (P B : List Float) → w ≡ v → n ≡ m → HoldsBoxes v P m B → HoldsBoxes w P n B
+holds-as {w} {v} {n} {m} P B e f h = subst (λ (k : ℕ). HoldsBoxes k P n B) (sym e) (subst (λ (k : ℕ). HoldsBoxes v P k B) (sym f) h)
+
+-- what `count_pairs` ensures, by equal widths and numbers
+abbrev Counted : Float → List Float → List Float → List Float → List Float → List Float → List Float → List Float → List Float → ℕ → ℕ → ℕ → ℕ → ℕ → Type 0
+Counted gap P1 t1 A1 B1 P2 t2 A2 B2 r w1 w2 n1 n2 =
+    ((r ≡ length (pairsFrom gap (pieces w1 P1 t1) (pieces w2 P2 t2) n2 n1 0)) × (r ≤ n1 * n2))
+    × ((B1 ≡ patch A1 0 (boxesFrom w1 P1 n1 0)) × (B2 ≡ patch A2 0 (boxesFrom w2 P2 n2 0)) × HoldsBoxes w1 P1 n1 B1 × HoldsBoxes w2 P2 n2 B2)
+
+pub counted-as : (gap : Float) (P1 t1 A1 B1 P2 t2 A2 B2 : List Float) (r : ℕ) {w1 v1 w2 v2 n1 m1 n2 m2 : ℕ} → w1 ≡ v1 → w2 ≡ v2 → n1 ≡ m1 → n2 ≡ m2
+    → Counted gap P1 t1 A1 B1 P2 t2 A2 B2 r w1 w2 n1 n2 → Counted gap P1 t1 A1 B1 P2 t2 A2 B2 r v1 v2 m1 m2
+counted-as gap P1 t1 A1 B1 P2 t2 A2 B2 r {w1} {v1} {w2} {v2} {n1} {m1} {n2} {m2} e1 e2 f1 f2 h =
+    subst (λ (k : ℕ). Counted gap P1 t1 A1 B1 P2 t2 A2 B2 r k v2 m1 m2) e1
+    (subst (λ (k : ℕ). Counted gap P1 t1 A1 B1 P2 t2 A2 B2 r w1 k m1 m2) e2
+    (subst (λ (k : ℕ). Counted gap P1 t1 A1 B1 P2 t2 A2 B2 r w1 w2 k m2) f1 (subst (λ (k : ℕ). Counted gap P1 t1 A1 B1 P2 t2 A2 B2 r w1 w2 n1 k) f2 h)))
 
 -- ---- a line's breaks in a local array, of which m are used
 pub used-length : (m : ℕ) (out : List Float) → m ≤ length out → m ≡ length (take m out)

@@ -1,15 +1,13 @@
--- The sheet program: what is printed for a sheet's bytes (document 01, "Sheet program"). Definitions only.
+-- What is printed for two lines and a question (document 01, "Sheet program"). Definitions only.
+use mathlib.Core.Path.{_≡_}
 use Prim.Native.Nat.{ℕ, _+_, _*_}
-use mathlib.Core.List.{List, _++_}
-use mathlib.Core.Bool.{cond}
-use lib.Dec.{ltb}
-use lib.ListN.{length, replicate}
+use mathlib.Core.List.{List, [], _++_}
+use mathlib.Core.Bool.{Bool, cond}
+use lib.ListN.{replicate}
 use lib.Ieee.{Float}
-use Rattle.lists.specs.Parts.{patch}
 use Rattle.floats.specs.Floats.{zero64}
 use Rattle.lines.specs.Lines.{Question}
 use Rattle.walks.specs.Words.{floatAt}
-use Rattle.walks.specs.Sheets.{Walked, walked, refusedAs, walkOf}
 use Rattle.states.specs.declared.State.{State}
 use Rattle.states.specs.States.{Memory, memory}
 use Rattle.search.specs.declared.Stepped.{Stepped}
@@ -24,7 +22,9 @@ use Rattle.opening.specs.declared.Question.{Question as Asking}
 use Rattle.opening.specs.declared.Opened.{Opened}
 use Rattle.opening.specs.declared.Opened.the-variants.{Open, BadLine, BadDatum, BadQuestion, NoRoom as NoOpenRoom}
 use Rattle.opening.specs.Opens.{openedNumber, openedLine, openDef}
+use Rattle.texts.specs.Texts.{Wrote}
 use Rattle.printing.specs.Printed.{countsLength, regionLength, countLine, regionLines, refusalLine}
+use Rattle.sheet.specs.declared.Pair.{Pair}
 
 -- ---- "It lends 8,112 floats a line for pieces, 7,904 a line for nets, 304 for ranges, 76 depths, 8,190 each for raw and report"; marks, "the sheet program lends 819": zeros
 unfoldable pub zeros : ℕ → List Float
@@ -76,29 +76,27 @@ openedText NoOpenRoom u out = refusalLine (openedNumber NoOpenRoom) (openedLine 
 unfoldable pub linesText : Question → List ℕ
 linesText q = let o = openDef q (zeros 8112) (zeros 8112) lent in openedText (o .answer) (o .memory) lentOutput
 
--- ---- the sheet
--- "6 question (N is S; then lo, hi, lo, hi, gap as floats)", the floats at place `at`, of lines with these data (`question_at`)
-unfoldable pub askingAt : List ℕ → ℕ → ℕ → ℕ → ℕ → Asking
-askingAt s at n datum1 datum2 = record { datum1 = datum1; datum2 = datum2; lo1 = floatAt s at; hi1 = floatAt s (at + 8); lo2 = floatAt s (at + 16); hi2 = floatAt s (at + 24); gap = floatAt s (at + 32); splits = n }
+-- ---- a pair of lines, opened and, where that is asked for, searched and printed
+-- what the opening on the lent memory answers
+unfoldable pub openedOn : Question → Opened
+openedOn q = openDef q (zeros 8112) (zeros 8112) lent .answer
 
--- "The sheet is walked whole before 4"
-abbrev pub walkedText : Walked → List ℕ
-walkedText (walked q) = linesText q
-walkedText (refusedAs n) = refusalLine n 0
+-- what is written: nothing where only the opening is asked for
+abbrev pub pairText : Bool → Question → List ℕ
+pairText print q = cond print (linesText q) []
 
--- from the bytes on standard input to those on standard output (`answer`)
-unfoldable pub answerOf : List ℕ → List ℕ
-answerOf s = walkedText (walkOf s)
+-- what an answer says: this number and line, and this text from the buffer's front (`refuse`, `answer_open`)
+abbrev pub Replied : ℕ → ℕ → List ℕ → List ℕ → List ℕ → Pair → Type 0
+Replied number line text before after r = (r .no ≡ number) × (r .line ≡ line) × Wrote before 0 text after (r .length)
 
--- ---- into a lent buffer
--- the longest answer: the line of counts, and one for each region that there is room for; 162,446 bytes
+-- the answer to a pair: the opening's number and line, and the text (`answer_lines`, `answer_second`, `answer_pair`)
+abbrev pub Answered : Bool → Question → List ℕ → List ℕ → Pair → Type 0
+Answered print q before after r = Replied (openedNumber (openedOn q)) (openedLine (openedOn q)) (pairText print q) before after r
+
+-- "6 question (N is S; then lo, hi, lo, hi, gap as floats)", the floats at place `at`, of lines with these data; the second line's lo and hi at place `range`, which is at + 16 in a sheet of two lines and behind the line's kind 11 in a chart (`question_at`)
+unfoldable pub askingAt : List ℕ → ℕ → ℕ → ℕ → ℕ → ℕ → Asking
+askingAt s at range n datum1 datum2 = record { datum1 = datum1; datum2 = datum2; lo1 = floatAt s at; hi1 = floatAt s (at + 8); lo2 = floatAt s range; hi2 = floatAt s (range + 8); gap = floatAt s (at + 32); splits = n }
+
+-- the longest text: the line of counts, and one for each region that there is room for; 162,446 bytes
 abbrev pub longest : ℕ
 longest = countsLength + lentRegions * regionLength
-
--- how many bytes the answer has; none where the buffer is too short for the longest
-abbrev pub answerLength : List ℕ → List ℕ → ℕ
-answerLength s out = cond (ltb (length out) longest) 0 (length (answerOf s))
-
--- the buffer afterwards: the answer from its front, or as it was
-abbrev pub answerIn : List ℕ → List ℕ → List ℕ
-answerIn s out = cond (ltb (length out) longest) out (patch out 0 (answerOf s))

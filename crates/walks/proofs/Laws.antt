@@ -69,9 +69,14 @@ pub size-question : (kind n : ℕ) → kind ≡ 6 → 40 ≡ sizeOf kind n
 unfolding sizeOf
 size-question kind n e = rw e refl
 
-pub size-none : (kind n : ℕ) → ((kind ≡ 2) ⊎ (kind ≡ 5) → ⊥) → (kind ≡ 3 → ⊥) → (kind ≡ 4 → ⊥) → (kind ≡ 6 → ⊥) → 0 ≡ sizeOf kind n
+pub size-range : (kind n : ℕ) → kind ≡ 11 → 16 ≡ sizeOf kind n
 unfolding sizeOf
-size-none kind n a b c d = simp (ne-eqb kind 2 (λ e. a (inl e)), ne-eqb kind 5 (λ e. a (inr e)), ne-eqb kind 3 b, ne-eqb kind 4 c, ne-eqb kind 6 d)
+size-range kind n e = rw e refl
+
+pub size-none : (kind n : ℕ) → ((kind ≡ 2) ⊎ (kind ≡ 5) → ⊥) → (kind ≡ 3 → ⊥) → (kind ≡ 4 → ⊥) → (kind ≡ 6 → ⊥) → (kind ≡ 11 → ⊥) → 0 ≡ sizeOf kind n
+unfolding sizeOf
+size-none kind n a b c d f =
+    simp (ne-eqb kind 2 (λ e. a (inl e)), ne-eqb kind 5 (λ e. a (inr e)), ne-eqb kind 3 b, ne-eqb kind 4 c, ne-eqb kind 6 d, ne-eqb kind 11 f)
 
 -- ---- which counts a word may have
 left-one : (b : Bool) → b ≡ (b || (false && not b))
@@ -82,10 +87,11 @@ pub bad-weights : (kind n : ℕ) → kind ≡ 5 → eqb n 0 ≡ badCount kind n
 unfolding badCount
 bad-weights kind n e = rw e (left-one (eqb n 0))
 
-pub bad-end : (kind n : ℕ) → kind ≡ 7 → not (eqb n 0) ≡ badCount kind n
+pub bad-bare : (kind n : ℕ) → (kind ≡ 7) ⊎ (kind ≡ 11) → not (eqb n 0) ≡ badCount kind n
 unfolding badCount
-bad-end kind n e = rw e refl
+bad-bare kind n (inl e) = rw e refl
+bad-bare kind n (inr e) = rw e refl
 
-pub good-count : (kind n : ℕ) → (kind ≡ 5 → ⊥) → (kind ≡ 7 → ⊥) → false ≡ badCount kind n
+pub good-count : (kind n : ℕ) → (kind ≡ 5 → ⊥) → ((kind ≡ 7) ⊎ (kind ≡ 11) → ⊥) → false ≡ badCount kind n
 unfolding badCount
-good-count kind n a b = simp (ne-eqb kind 5 a, ne-eqb kind 7 b)
+good-count kind n a b = simp (ne-eqb kind 5 a, ne-eqb kind 7 (λ e. b (inl e)), ne-eqb kind 11 (λ e. b (inr e)))

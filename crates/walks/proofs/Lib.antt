@@ -1,3 +1,4 @@
 pub mod Laws
 pub mod Walks
+pub mod Charts
 pub mod Examples

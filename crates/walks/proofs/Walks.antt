@@ -1,4 +1,4 @@
--- Laws of the walk: what each test at a word gives, and how parts join to lines and lines to the sheet. Assumes nothing.
+-- Laws of the walk: what each test at a word gives, and how parts join to lines. Assumes nothing.
 use mathlib.Core.Path.{_≡_, refl, sym, ap, _∙_, subst}
 use mathlib.Core.Bool.{Bool, true, false, cond, not}
 use mathlib.Core.List.{List}
@@ -8,8 +8,8 @@ use lib.Dec.{eqb, eqb·suc-zero}
 use lib.ListN.{length}
 use borrow.Author.Tests.{lt-ltb, le-ltb, eq-eqb, ne-eqb}
 use Rattle.walks.specs.Words.{wordAt, kindOf, countOf}
-use Rattle.walks.specs.Sheets.{Walked, walked, refusedAs, badLength, badCount, sizeOf, partOf, wordStands, weightsOf, lineKind, lineAfter, walkOf}
-use Rattle.walks.specs.Places.{unless, lineIn, questionIn, SheetInside, PartFits, LineFits}
+use Rattle.walks.specs.Sheets.{Walked, refusedAs, badCount, sizeOf, partOf, wordStands, weightsOf, lineKind, lineAfter, lineStands}
+use Rattle.walks.specs.Places.{unless, lineIn, partAt, weightsAt, lineAt, ChartLineInside, PartFits, LineFits}
 use Rattle.walks.specs.declared.Part.{Part}
 use Rattle.walks.specs.declared.Line.{Line}
 
@@ -21,6 +21,19 @@ on w e = rw e refl
 pub off : {n : ℕ} (w : Walked) → (n ≡ 0 → ⊥) → unless n w ≡ refusedAs n
 unfolding unless
 off {n} w e = simp (ne-eqb n 0 e)
+
+-- what follows matters only where the number is 0
+pub where-on : (n : ℕ) {v w : Walked} → (n ≡ 0 → v ≡ w) → unless n v ≡ unless n w
+unfolding unless
+where-on zero f = f refl
+where-on (suc n) f = simp (eqb·suc-zero n)
+
+-- a test's two sides
+pub side-true : (n : ℕ) {b : Bool} (v w : Walked) → b ≡ true → unless n (cond b v w) ≡ unless n v
+side-true n v w e = rw e refl
+
+pub side-false : (n : ℕ) {b : Bool} (v w : Walked) → b ≡ false → unless n (cond b v w) ≡ unless n w
+side-false n v w e = rw e refl
 
 -- ---- the tests at one word
 module _ (s : List ℕ) (kind at : ℕ) where
@@ -49,6 +62,12 @@ module _ (s : List ℕ) (kind at : ℕ) where
         unfolding partOf
         found l go = rw (← is, ← size) (simp (le-ltb (length s) (at + 4) (omega arith), eq-eqb (kindOf w) kind same, good, le-ltb (length s) (at + 4 + r) (omega arith)))
 
+-- the part that was found is the one that stands there
+pub found-is : (s : List ℕ) (kind at w r : ℕ) → w ≡ wordAt s at → r ≡ sizeOf kind (countOf w)
+    → _≡_ {A = Part} (record { no = 0; count = countOf w; at = at + 4; next = at + 4 + r }) (partAt s kind at)
+unfolding partAt
+found-is s kind at w r is size = rw (← is, ← size) refl
+
 -- ---- a word of this kind stands there, or another, or none
 module _ (s : List ℕ) (kind at : ℕ) where
   pub word-left : (w : ℕ) → w ≡ wordAt s at → 4 ≤ length s - at → eqb (kindOf w) kind ≡ wordStands s kind at
@@ -59,50 +78,77 @@ module _ (s : List ℕ) (kind at : ℕ) where
   unfolding wordStands
   none-left h k = simp (lt-ltb (length s) (at + 4) (omega arith))
 
+-- ---- a line starts there, open or closed
+module _ (s : List ℕ) (at : ℕ) {one : Bool} (is : one ≡ wordStands s 1 at) where
+  pub line-open : one ≡ true → one ≡ lineStands s at
+  unfolding lineStands
+  line-open e = rw (← is, e) refl
+
+  pub line-other : {other : Bool} → one ≡ false → other ≡ wordStands s 8 at → other ≡ lineStands s at
+  unfolding lineStands
+  line-other e f = rw (← is, e, f) refl
+
 -- ---- weights, there or not
 module _ (s : List ℕ) (at : ℕ) {stands : Bool} (is : stands ≡ wordStands s 5 at) where
   pub weights-there : stands ≡ true → (go : ℕ → ℕ → ℕ → Walked) → weightsOf s at go ≡ partOf s 5 at go
   unfolding weightsOf
   weights-there e go = rw (← is, e) refl
 
+  pub weights-there-is : stands ≡ true → partAt s 5 at ≡ weightsAt s at
+  unfolding weightsAt
+  weights-there-is e = rw (← is, e) refl
+
   pub weights-absent : stands ≡ false → (go : ℕ → ℕ → ℕ → Walked) → weightsOf s at go ≡ go 0 at at
   unfolding weightsOf
   weights-absent e go = rw (← is, e) refl
 
+  pub weights-absent-is : stands ≡ false → _≡_ {A = Part} (record { no = 0; count = 0; at = at; next = at }) (weightsAt s at)
+  unfolding weightsAt
+  weights-absent-is e = rw (← is, e) refl
+
 -- ---- a part that is refused with m, and one that is not
-module _ (s : List ℕ) (n : ℕ) (walk : (ℕ → ℕ → ℕ → Walked) → Walked) (size : ℕ → ℕ) (p : Part) where
+module _ (s : List ℕ) (n : ℕ) (walk : (ℕ → ℕ → ℕ → Walked) → Walked) (size : ℕ → ℕ) (there p : Part) where
   refused-with : (m : ℕ) → (p .no ≡ m) × (p .count ≡ 0) × (p .next ≡ 0) → (m ≡ 0 → ⊥) → ((go : ℕ → ℕ → ℕ → Walked) → unless n (walk go) ≡ refusedAs m)
-      → PartFits s n walk size p
+      → PartFits s n walk size there p
   refused-with m e h f = record {
     says = λ go. f go ∙ rw (e .0) (sym (off (go (p .count) (p .at) (p .next)) h));
     before = omega arith;
     few = omega arith;
     fits = λ z. absurd (h (sym (e .0) ∙ z));
+    is = λ z. absurd (h (sym (e .0) ∙ z));
   }
 
-  pub before-refused : (p .no ≡ n) × (p .count ≡ 0) × (p .next ≡ 0) → (n ≡ 0 → ⊥) → PartFits s n walk size p
+  pub before-refused : (p .no ≡ n) × (p .count ≡ 0) × (p .next ≡ 0) → (n ≡ 0 → ⊥) → PartFits s n walk size there p
   before-refused e h = refused-with n e h (λ go. off (walk go) h)
 
   pub here-refused : (m : ℕ) → (p .no ≡ m) × (p .count ≡ 0) × (p .next ≡ 0) → (m ≡ 0 → ⊥) → n ≡ 0
-      → ((go : ℕ → ℕ → ℕ → Walked) → walk go ≡ refusedAs m) → PartFits s n walk size p
+      → ((go : ℕ → ℕ → ℕ → Walked) → walk go ≡ refusedAs m) → PartFits s n walk size there p
   here-refused m e h z f = refused-with m e h (λ go. on (walk go) z ∙ f go)
 
-pub taken : (s : List ℕ) (n : ℕ) (walk : (ℕ → ℕ → ℕ → Walked) → Walked) (size : ℕ → ℕ) (count at next : ℕ) → n ≡ 0
-    → ((go : ℕ → ℕ → ℕ → Walked) → walk go ≡ go count at next)
-    → next ≤ length s → count < 268435456 → at + size count ≤ length s → PartFits s n walk size (record { no = 0; count = count; at = at; next = next })
+pub taken : (s : List ℕ) (n : ℕ) (walk : (ℕ → ℕ → ℕ → Walked) → Walked) (size : ℕ → ℕ) (there : Part) (count at next : ℕ) → n ≡ 0
+    → ((go : ℕ → ℕ → ℕ → Walked) → walk go ≡ go count at next) → _≡_ {A = Part} (record { no = 0; count = count; at = at; next = next }) there
+    → next ≤ length s → count < 268435456 → at + size count ≤ length s → PartFits s n walk size there (record { no = 0; count = count; at = at; next = next })
 unfolding unless
-taken s n walk size count at next z f b l i = record { says = λ go. on (walk go) z ∙ f go; before = b; few = l; fits = λ e. (z, i) }
+taken s n walk size there count at next z f e b l i = record { says = λ go. on (walk go) z ∙ f go; before = b; few = l; fits = λ _. (z, i); is = λ _. e }
 
-pub taken-over : (s : List ℕ) (n : ℕ) (walk there : (ℕ → ℕ → ℕ → Walked) → Walked) (size : ℕ → ℕ) (p : Part) → n ≡ 0 → ((go : ℕ → ℕ → ℕ → Walked) → walk go ≡ there go)
-    → PartFits s 0 there size p → PartFits s n walk size p
+pub taken-over : (s : List ℕ) (n : ℕ) (walk walk' : (ℕ → ℕ → ℕ → Walked) → Walked) (size : ℕ → ℕ) (there there' p : Part) → n ≡ 0
+    → ((go : ℕ → ℕ → ℕ → Walked) → walk go ≡ walk' go) → there' ≡ there → PartFits s 0 walk' size there' p → PartFits s n walk size there p
 unfolding unless
-taken-over s n walk there size p z f h = record { says = λ go. on (walk go) z ∙ f go ∙ h .says go; before = h .before; few = h .few; fits = λ e. (z, h .fits e .1) }
+taken-over s n walk walk' size there there' p z f e h =
+    record { says = λ go. on (walk go) z ∙ f go ∙ h .says go; before = h .before; few = h .few; fits = λ o. (z, h .fits o .1); is = λ o. h .is o ∙ e }
 
 -- ---- five parts and the datum are a line
+line-is : (s : List ℕ) (at : ℕ) {D K M P W N : Part} → D ≡ partAt s (lineKind (wordStands s 8 at)) at → K ≡ partAt s 2 (D .next) → M ≡ partAt s 3 (K .next)
+    → P ≡ partAt s 4 (M .next) → W ≡ weightsAt s (P .next) → N ≡ partAt s 9 (W .next)
+    → _≡_ {A = Line} (record { no = N .no; closed = wordStands s 8 at; degree = D .count; knots = K; mults = M; poles = P; weights = W; datum = N .count; next = N .next })
+    (lineAt s at)
+unfolding lineAt partAt
+line-is s at d k m p w n = rw (n, w, p, m, k, d) refl
+
 pub line-fits : {s : List ℕ} {n at kind : ℕ} {closed : Bool} {D K M P W N : Part} → closed ≡ wordStands s 8 at → kind ≡ lineKind closed
-    → PartFits s n (partOf s kind at) (sizeOf kind) D → PartFits s (D .no) (partOf s 2 (D .next)) (sizeOf 2) K
-    → PartFits s (K .no) (partOf s 3 (K .next)) (sizeOf 3) M → PartFits s (M .no) (partOf s 4 (M .next)) (sizeOf 4) P
-    → PartFits s (P .no) (weightsOf s (P .next)) (sizeOf 5) W → PartFits s (W .no) (partOf s 9 (W .next)) (sizeOf 9) N
+    → PartFits s n (partOf s kind at) (sizeOf kind) (partAt s kind at) D → PartFits s (D .no) (partOf s 2 (D .next)) (sizeOf 2) (partAt s 2 (D .next)) K
+    → PartFits s (K .no) (partOf s 3 (K .next)) (sizeOf 3) (partAt s 3 (K .next)) M → PartFits s (M .no) (partOf s 4 (M .next)) (sizeOf 4) (partAt s 4 (M .next)) P
+    → PartFits s (P .no) (weightsOf s (P .next)) (sizeOf 5) (weightsAt s (P .next)) W → PartFits s (W .no) (partOf s 9 (W .next)) (sizeOf 9) (partAt s 9 (W .next)) N
     → LineFits s n at (record { no = N .no; closed = closed; degree = D .count; knots = K; mults = M; poles = P; weights = W; datum = N .count; next = N .next })
 unfolding lineAfter lineIn sizeOf
 line-fits {s} {n} {at} {kind} {closed} {D} {K} {M} {P} {W} {N} is opens d k m p w t =
@@ -115,42 +161,23 @@ line-fits {s} {n} {at} {kind} {closed} {D} {K} {M} {P} {W} {N} is opens d k m p 
           let fm = m .fits (fp .0) in
           let fk = k .fits (fm .0) in
           (d .fits (fk .0) .0, record { knots = fk .1; mults = fm .1; poles = fp .1; weights = fw .1 });
+      is = λ e.
+          let zw = t .fits e .0 in
+          let zp = w .fits zw .0 in
+          let zm = p .fits zp .0 in
+          let zk = m .fits zm .0 in
+          line-is s at (first .is (k .fits zk .0)) (k .is zk) (m .is zm) (p .is zp) (w .is zw) (t .is e);
     })
   where
-    first : PartFits s n (partOf s (lineKind (wordStands s 8 at)) at) (sizeOf (lineKind (wordStands s 8 at))) D
-    first = subst (λ z. PartFits s n (partOf s z at) (sizeOf z) D) (opens ∙ ap lineKind is) d
+    first : PartFits s n (partOf s (lineKind (wordStands s 8 at)) at) (sizeOf (lineKind (wordStands s 8 at))) (partAt s (lineKind (wordStands s 8 at)) at) D
+    first = subst (λ z. PartFits s n (partOf s z at) (sizeOf z) (partAt s z at) D) (opens ∙ ap lineKind is) d
 
--- ---- the number of the length, and of the end's place
-begin : (b : Bool) (w : Walked) {n : ℕ} → n ≡ cond b 1 0 → cond b (refusedAs 1) w ≡ unless n w
+-- ---- a line that a walk has passed is not refused
+no-number : (n : ℕ) → unless n (refusedAs 0) ≡ refusedAs 0 → n ≡ 0
 unfolding unless
-begin true w e = rw e refl
-begin false w e = rw e refl
+no-number zero e = refl
+no-number (suc n) e = let f : refusedAs (suc n) ≡ refusedAs 0 = simp (eqb·suc-zero n) at e in cc
 
-end : (n : ℕ) (b : Bool) (w : Walked) {l : ℕ} → l ≡ cond (eqb n 0) (cond b 0 3) n → unless n (cond (not b) (refusedAs 3) w) ≡ unless l w
+pub line-again : (s : List ℕ) (at : ℕ) (l : Line) → ChartLineInside s at → LineFits s 0 at l → l ≡ lineAt s at
 unfolding unless
-end zero true w e = rw e refl
-end zero false w e = rw e refl
-end (suc n) b w e = rw e (simp (eqb·suc-zero n))
-
-end-zero : (n : ℕ) (b : Bool) → cond (eqb n 0) (cond b 0 3) n ≡ 0 → n ≡ 0
-end-zero zero b h = refl
-end-zero (suc n) b h = simp (eqb·suc-zero n) at h
-
--- ---- two lines, the question and the end are a sheet
-module _ (s : List ℕ) (first last : ℕ) (f g : Line) (q e : Part) (lf : LineFits s first 0 f) (lg : LineFits s (f .no) (f .next) g)
-    (lq : PartFits s (g .no) (partOf s 6 (g .next)) (sizeOf 6) q) (le : PartFits s (q .no) (partOf s 7 (q .next)) (sizeOf 7) e) where
-  pub sheet-says : first ≡ cond (badLength (length s)) 1 0 → last ≡ cond (eqb (e .no) 0) (cond (eqb (e .next) (length s)) 0 3) (e .no)
-      → walkOf s ≡ unless last (walked (questionIn s (record { no = last; first = f; second = g; splits = q .count; asked = q .at })))
-  unfolding walkOf questionIn
-  sheet-says a b =
-      let w : Walked = walked (questionIn s (record { no = last; first = f; second = g; splits = q .count; asked = q .at })) in
-      begin (badLength (length s)) _ a ∙ lf .says _ ∙ lg .says _ ∙ lq .says _ ∙ le .says _ ∙ end (e .no) (eqb (e .next) (length s)) w b
-
-  pub sheet-inside : last ≡ cond (eqb (e .no) 0) (cond (eqb (e .next) (length s)) 0 3) (e .no) → last ≡ 0
-      → SheetInside (length s) (record { no = last; first = f; second = g; splits = q .count; asked = q .at })
-  unfolding sizeOf
-  sheet-inside b z =
-      let fe = le .fits (end-zero (e .no) (eqb (e .next) (length s)) (sym b ∙ z)) in
-      let fq = lq .fits (fe .0) in
-      let fg = lg .fits (fq .0) in
-      record { first = lf .fits (fg .0) .1; second = fg .1; asked = fq .1 }
+line-again s at l h f = f .is (no-number (l .no) (sym (f .says (λ _ _. refusedAs 0)) ∙ h .walks (λ _ _. refusedAs 0)))

@@ -1,4 +1,4 @@
--- Sheets that are walked by computation: the paper's example, closed lines in the place of open ones, and small sheets with one fault each. Definitions only.
+-- Sheets that are walked by computation: the paper's example, closed lines in the place of open ones, charts, and small sheets with one fault each. Definitions only.
 use mathlib.Core.Path.{_≡_}
 use mathlib.Core.Bool.{Bool, true, false}
 use mathlib.Core.List.{List, [], _∷_, _++_}
@@ -6,9 +6,9 @@ use Prim.Native.Nat.{ℕ, _+_, _*_, _/_, _%_}
 use lib.Ieee.{Float, binary64, ofBits}
 use Rattle.lists.specs.Members.{All}
 use Rattle.lines.specs.Lines.{Line, lineOf, withDatum}
-use Rattle.walks.specs.Sheets.{Walked, walked, refusedAs, walkOf}
+use Rattle.walks.specs.Sheets.{ChartLine, Walked, walked, charted, refusedAs, walkOf}
 
--- words as bytes; a word of kind k and count n; the floats 0 and 1 as words
+-- words as bytes; a word of kind k and count n; the floats 0, 1 and 2 as words
 abbrev pub bytes : List ℕ → List ℕ
 bytes [] = []
 bytes (w ∷ l) = w % 256 ∷ w / 256 % 256 ∷ w / 65536 % 256 ∷ w / 16777216 ∷ bytes l
@@ -21,6 +21,9 @@ nought = 0 ∷ 0 ∷ []
 
 abbrev pub one : List ℕ
 one = 0 ∷ 0x3ff00000 ∷ []
+
+abbrev pub two : List ℕ
+two = 0 ∷ 0x40000000 ∷ []
 
 -- the line (0,0,0) to (1,0,0), degree 1, knots 0 and 1 doubled, opened by a word of kind k: up to its poles, with a datum, with datum 1
 abbrev pub undated : ℕ → List ℕ
@@ -35,15 +38,28 @@ opened k = undated k ++ (head 9 1 ∷ [])
 abbrev pub straight : List ℕ
 straight = opened 1
 
--- the question of whole ranges, gap 0, S 0, and the end
+-- the question of S n and the range 0 to 1, with the second range and the gap as given, and the end; of whole ranges, gap 0, S 0; of a chart, gap 2, S 3
+abbrev pub asking : ℕ → List ℕ → List ℕ → List ℕ
+asking n second gap = (head 6 n ∷ []) ++ nought ++ one ++ second ++ gap ++ (head 7 0 ∷ [])
+
 abbrev pub asked : List ℕ
-asked = (head 6 0 ∷ []) ++ nought ++ one ++ nought ++ one ++ nought ++ (head 7 0 ∷ [])
+asked = asking 0 (nought ++ one) nought
+
+abbrev pub chartAsked : List ℕ
+chartAsked = asking 3 (nought ++ nought) two
+
+-- a line of a chart, with the range 1 to 2
+abbrev pub ranged : List ℕ → List ℕ
+ranged l = l ++ (head 11 0 ∷ []) ++ one ++ two
 
 abbrev pub zeroF : Float
 zeroF = ofBits binary64 0
 
 abbrev pub oneF : Float
 oneF = ofBits binary64 0x3ff0000000000000
+
+abbrev pub twoF : Float
+twoF = ofBits binary64 0x4000000000000000
 
 abbrev pub line : Bool → Line
 line closed = lineOf closed 1 (zeroF ∷ oneF ∷ []) (2 ∷ 2 ∷ []) (zeroF ∷ zeroF ∷ zeroF ∷ oneF ∷ zeroF ∷ zeroF ∷ []) []
@@ -57,6 +73,13 @@ heavy = lineOf false 1 (zeroF ∷ oneF ∷ []) (2 ∷ 2 ∷ []) (zeroF ∷ zeroF
 
 abbrev pub about : Line → Line → Walked
 about a b = walked (record { line1 = a; lo1 = zeroF; hi1 = oneF; line2 = b; lo2 = zeroF; hi2 = oneF; gap = zeroF; splits = 0 })
+
+-- the chart of the open line as track, and these lines
+abbrev pub over : Line → ChartLine
+over l = record { line = l; lo = oneF; hi = twoF }
+
+abbrev pub chart : List ChartLine → Walked
+chart ls = charted (record { track = record { line = line false; lo = zeroF; hi = oneF }; lines = ls; gap = twoF; splits = 3 })
 
 -- a sheet's words, and what is read of it
 pub record Sheet : Type 0 where
@@ -83,8 +106,33 @@ sheets =
     ∷ gives (head 1 1 ∷ head 2 0 ∷ head 3 0 ∷ head 4 0xfffffff ∷ []) (refusedAs 3)
     -- weights of count 0 as the last word: 2
     ∷ gives (head 1 1 ∷ head 2 0 ∷ head 3 0 ∷ head 4 0 ∷ head 5 0 ∷ []) (refusedAs 2)
-    -- the second line is missing: 3
+    -- the track alone, and no word behind it: 3; the end word where the question is due: 2
     ∷ gives straight (refusedAs 3)
+    ∷ gives (straight ++ (head 7 0 ∷ [])) (refusedAs 2)
+    -- charts of 0, 1 and 2 lines; of a closed line, of lines with weights and another datum
+    ∷ gives (straight ++ chartAsked) (chart [])
+    ∷ gives (straight ++ ranged straight ++ chartAsked) (chart (over (line false) ∷ []))
+    ∷ gives (straight ++ ranged straight ++ ranged (dated 2) ++ chartAsked) (chart (over (line false) ∷ over (withDatum 2 (line false)) ∷ []))
+    ∷ gives (straight ++ ranged (opened 8) ++ chartAsked) (chart (over (line true) ∷ []))
+    ∷ gives (straight ++ ranged (undated 1 ++ weighed ++ (head 9 1 ∷ [])) ++ ranged (opened 8) ++ chartAsked) (chart (over heavy ∷ over (line true) ∷ []))
+    -- a second range in the question that isn't 0, 0 is unread
+    ∷ gives (straight ++ ranged straight ++ asking 3 (two ++ one) two) (chart (over (line false) ∷ []))
+    ∷ gives (straight ++ asking 3 (nought ++ one) two) (chart [])
+    -- kind 11 after the track, or missing after the third line: 2
+    ∷ gives (ranged straight ++ chartAsked) (refusedAs 2)
+    ∷ gives (ranged straight ++ ranged straight ++ chartAsked) (refusedAs 2)
+    ∷ gives (straight ++ ranged straight ++ straight ++ chartAsked) (refusedAs 2)
+    -- kind 11 of count 1, on the second line and on the third: 2
+    ∷ gives (straight ++ straight ++ (head 11 1 ∷ []) ++ one ++ two ++ chartAsked) (refusedAs 2)
+    ∷ gives (straight ++ ranged straight ++ straight ++ (head 11 1 ∷ []) ++ one ++ two ++ chartAsked) (refusedAs 2)
+    -- a range cut short, and no word behind a range: 3
+    ∷ gives (straight ++ straight ++ (head 11 0 ∷ []) ++ one) (refusedAs 3)
+    ∷ gives (straight ++ ranged straight) (refusedAs 3)
+    -- a third line where the second has no range, with a range or without: 2
+    ∷ gives (straight ++ straight ++ straight ++ asked) (refusedAs 2)
+    ∷ gives (straight ++ straight ++ ranged straight ++ asked) (refusedAs 2)
+    -- words behind the end of a chart: 3
+    ∷ gives (straight ++ ranged straight ++ chartAsked ++ straight) (refusedAs 3)
     -- a datum of any count is read, behind the weights where there are any
     ∷ gives (dated 9999 ++ dated 2 ++ asked) (about (withDatum 9999 (line false)) (withDatum 2 (line false)))
     ∷ gives (dated 0 ++ dated 0xfffffff ++ asked) (about (withDatum 0 (line false)) (withDatum 0xfffffff (line false)))

@@ -6,8 +6,8 @@ ghost use lib.Dec.{eqb};
 ghost use lib.ListN.{length};
 ghost use Rattle.lists.specs.Parts.{patch};
 ghost use Rattle.walks.specs.Words.{wordAt, floatAt, wordsFrom, floatsFrom};
-ghost use Rattle.walks.specs.Sheets.{walked, badCount, badLength, sizeOf, partOf, wordStands, weightsOf, lineKind, walkOf};
-ghost use Rattle.walks.specs.Places.{unless, questionIn, LineInside, PartFits, LineFits, SheetInside};
+ghost use Rattle.walks.specs.Sheets.{badCount, badLength, sizeOf, partOf, wordStands, weightsOf, lineKind, lineStands, walkOf};
+ghost use Rattle.walks.specs.Places.{unless, partAt, weightsAt, lineAt, sheetIn, sheetOf, LineInside, ChartLineInside, SheetInside, PartFits, LineFits, ChartLineFits, LinesFits, ClosingFits};
 
 // A counted part: the number that refuses the sheet or 0, the count in its word, where it starts, and the place behind it.
 pub struct Part {
@@ -30,11 +30,28 @@ pub struct Line {
     pub next: usize,
 }
 
+// The lines of a chart: the number that refuses the sheet or 0, how many they are, and the place behind them.
+struct Lines {
+    no: u8,
+    count: usize,
+    next: usize,
+}
+
+// The question and the end: the number that refuses the sheet or 0, the splits per pair, and where the question's five floats start.
+struct Closing {
+    no: u8,
+    splits: u32,
+    asked: usize,
+}
+
 // The parts of a sheet; the question's five floats start at `asked`.
+// A chart has `lines` lines, each with its range, from `first.next` on; its `second` is the track again.
 pub struct Sheet {
     pub no: u8,
+    pub chart: bool,
     pub first: Line,
     pub second: Line,
+    pub lines: usize,
     pub splits: u32,
     pub asked: usize,
 }
@@ -116,7 +133,7 @@ fn bad_count(kind: u32, n: usize) -> bool
 {
     match kind {
         5 => n == 0,
-        7 => n != 0,
+        7 | 11 => n != 0,
         _ => false,
     }
 }
@@ -131,6 +148,7 @@ fn size(kind: u32, n: usize) -> usize
         3 => 4 * n,
         4 => 24 * n,
         6 => 40,
+        11 => 16,
         _ => 0,
     }
 }
@@ -149,7 +167,7 @@ fn no_part(no: u8) -> Part
 // The part of this kind at `at`, unless the sheet was refused before.
 fn part_after(s: &[u8], no: u8, at: usize, kind: u32) -> Part
     requires { ⌜ at ≤ length (now s) ⌝ }
-    ensures { λ r. ⌜ PartFits (now (s .entry)) no (partOf (now (s .entry)) kind at) (sizeOf kind) r ⌝ }
+    ensures { λ r. ⌜ PartFits (now (s .entry)) no (partOf (now (s .entry)) kind at) (sizeOf kind) (partAt (now (s .entry)) kind at) r ⌝ }
 {
     if no != 0 {
         return no_part(no);
@@ -192,7 +210,7 @@ fn word_stands(s: &[u8], kind: u32, at: usize) -> bool
 // The weights at `at`, an empty part where another word stands.
 fn weights_after(s: &[u8], no: u8, at: usize) -> Part
     requires { ⌜ at ≤ length (now s) ⌝ }
-    ensures { λ r. ⌜ PartFits (now (s .entry)) no (weightsOf (now (s .entry)) at) (sizeOf 5) r ⌝ }
+    ensures { λ r. ⌜ PartFits (now (s .entry)) no (weightsOf (now (s .entry)) at) (sizeOf 5) (weightsAt (now (s .entry)) at) r ⌝ }
 {
     if no != 0 {
         return no_part(no);
@@ -243,6 +261,64 @@ fn line_after(s: &[u8], no: u8, at: usize) -> Line
     }
 }
 
+// The line at `at` that a walk has passed, as one of a chart.
+pub fn line_at(s: &[u8], at: usize) -> Line
+    requires { ⌜ ChartLineInside (now s) at ⌝ }
+    ensures { λ r. ⌜ r ≡ lineAt (now (s .entry)) at ⌝ }
+{
+    line_after(s, 0, at)
+}
+
+// Whether a line starts at `at`.
+fn line_stands(s: &[u8], at: usize) -> bool
+    requires { ⌜ at ≤ length (now s) ⌝ }
+    ensures { λ r. ⌜ r ≡ lineStands (now (s .entry)) at ⌝ }
+{
+    word_stands(s, 1, at) || word_stands(s, 8, at)
+}
+
+// The range of the chart's line at `at`.
+fn chart_line_after(s: &[u8], at: usize) -> Part
+    requires { ⌜ at ≤ length (now s) ⌝ }
+    ensures { λ r. ⌜ ChartLineFits (now (s .entry)) at r ⌝ }
+{
+    let line = line_after(s, 0, at);
+    part_after(s, line.no, line.next, 11)
+}
+
+// The lines of a chart from `at` on, unless the sheet was refused before.
+fn lines_after(s: &[u8], no: u8, at: usize) -> Lines
+    requires { ⌜ at ≤ length (now s) ⌝ }
+    ensures { λ r. ⌜ LinesFits (now (s .entry)) no at r ⌝ }
+{
+    if no != 0 {
+        return Lines {
+            no,
+            count: 0,
+            next: 0,
+        };
+    }
+    let mut count = 0usize;
+    let mut place = at;
+    while line_stands(s, place) {
+        let range = chart_line_after(s, place);
+        if range.no != 0 {
+            return Lines {
+                no: range.no,
+                count,
+                next: 0,
+            };
+        }
+        place = range.next;
+        count += 1;
+    }
+    Lines {
+        no: 0,
+        count,
+        next: place,
+    }
+}
+
 // The number of a sheet whose length is wrong, else 0.
 fn length_no(n: usize) -> u8
     ensures { λ r. ⌜ r ≡ cond (badLength n) 1 0 ⌝ }
@@ -272,20 +348,65 @@ fn tail_no(s: &[u8], no: u8, next: usize) -> u8
     0
 }
 
-// The parts of any bytes that are a sheet, or the number that refuses them.
-pub fn walk(s: &[u8]) -> Sheet
-    ensures { λ r. ⌜ walkOf (now (s .entry)) ≡ unless (r .no) (walked (questionIn (now (s .entry)) r)) ⌝ }
-    ensures { λ r. ⌜ (r .no ≡ 0 → SheetInside (length (now (s .entry))) r) ⌝ }
+// The question and the end at `at`, unless the sheet was refused before.
+fn closing_after(s: &[u8], no: u8, at: usize) -> Closing
+    requires { ⌜ at ≤ length (now s) ⌝ }
+    ensures { λ r. ⌜ ClosingFits (now (s .entry)) no at r ⌝ }
 {
-    let first = line_after(s, length_no(s.len()), 0);
-    let second = line_after(s, first.no, first.next);
-    let question = part_after(s, second.no, second.next, 6);
+    let question = part_after(s, no, at, 6);
     let end = part_after(s, question.no, question.next, 7);
-    Sheet {
+    Closing {
         no: tail_no(s, end.no, end.next),
-        first,
-        second,
         splits: question.count as u32,
         asked: question.at,
     }
+}
+
+fn sheet_of(chart: bool, first: Line, second: Line, lines: usize, end: Closing) -> Sheet
+    ensures { λ r. ⌜ r ≡ sheetOf chart first second lines end ⌝ }
+{
+    Sheet {
+        no: end.no,
+        chart,
+        first,
+        second,
+        lines,
+        splits: end.splits,
+        asked: end.asked,
+    }
+}
+
+// The parts of any bytes that are a sheet, or the number that refuses them.
+pub fn walk(s: &[u8]) -> Sheet
+    ensures { λ r. ⌜ walkOf (now (s .entry)) ≡ unless (r .no) (sheetIn (now (s .entry)) r) ⌝ }
+    ensures { λ r. ⌜ (r .no ≡ 0 → SheetInside (now (s .entry)) r) ⌝ }
+{
+    let first = line_after(s, length_no(s.len()), 0);
+    if !line_stands(s, first.next) {
+        return sheet_of(
+            true,
+            first,
+            first,
+            0,
+            closing_after(s, first.no, first.next),
+        );
+    }
+    let second = line_after(s, first.no, first.next);
+    if word_stands(s, 11, second.next) {
+        let lines = lines_after(s, first.no, first.next);
+        return sheet_of(
+            true,
+            first,
+            first,
+            lines.count,
+            closing_after(s, lines.no, lines.next),
+        );
+    }
+    sheet_of(
+        false,
+        first,
+        second,
+        0,
+        closing_after(s, second.no, second.next),
+    )
 }

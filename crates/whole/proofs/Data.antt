@@ -19,7 +19,7 @@ use Rattle.opening.specs.Asked.{start, stateOf}
 use Rattle.opening.specs.Opens.{openedNumber, searchFor, isAdmitted, isFine, piecesFit, Pushing, pushing, Opening, opening, openPieces, openDef}
 use Rattle.opening.proofs.Laws.{bad-datum}
 use Rattle.whole.specs.Refusals.{GoodLine, DatumFault, DatumTable}
-use Rattle.whole.proofs.Refusals.{good-admitted, admitted-good, dataTest, fault-off, off-fault}
+use Rattle.whole.proofs.Tests.{good-admitted, admitted-good, dataTest, fault-off, off-fault}
 
 -- no other answer has this number
 line-other : (a : Admission) → admissionNumber a ≡ 23 → ⊥

@@ -26,12 +26,13 @@ use Rattle.questions.specs.Questions.{askWithin, parted, rangeFits, wholeTurn}
 use Rattle.roots.specs.Root.{isqrt, rootIn, rootUnits, rounded}
 use Rattle.spans.specs.Spans.{backOf, clampOf, passedOf, reachOf, spanAround, spanEnd, spanOf, placeOf}
 use Rattle.walks.specs.Words.{wordAt, floatAt, wordsFrom, floatsFrom}
-use Rattle.walks.specs.Sheets.{lineKind, wordStands, badLength, badCount, sizeOf, partOf, weightsOf, lineAfter, walkOf}
+use Rattle.walks.specs.Sheets.{lineKind, wordStands, badLength, badCount, sizeOf, partOf, weightsOf, lineAfter, lineStands, closing, pairOf, walkOf}
 use Rattle.texts.specs.Texts.{hexDigit, digitsOf, placesIn, decimalOf, hexOf, bitsOf, floatText}
 use Rattle.printing.specs.Printed.{counted, stepsText, settledText, listedText, countLine, floatTexts, regionLine, regionLines, refusalLine}
-use Rattle.sheet.specs.Answers.{zeros, zeroDepths, reportText, searchText, linesText, answerOf, zeroMarks}
+use Rattle.sheet.specs.Answers.{zeros, zeroDepths, reportText, searchText, linesText, zeroMarks}
+use Rattle.charts.specs.Answers.{answerOf}
 use Rattle.whole.specs.Example.{ExamplePrinted}
 
 pub example-printed : ExamplePrinted
-unfolding oneDatum datumOut zeroMarks wholeTurn wordStands lineKind unrolledOf lineFlat turnOfPoles added alongAxis alongOneLine alphaOf apartAlong apartBy apartByNormal askWithin backOf between boundingBox boundsIn openBounds boxOf boxSize boxesApart chordOf clampOf coefficient copySlot cutTo cutsFrom dotOf eachTwo endOf every extentOf firsts flatKnots greatest hasWidth held homogeneousOf homogeneousPoles inside isLength isNear isNull isqrt knotOf least lerpOf lowerPart measured measuredBox measuredIn measuredVerdict middle mixOf netAt netOf placeOf netsOf normOf normalOf outOfMeasure paired parted passedOf piecesOf pointOf pointsFrom pointsOf rangeFits reachOf remains repeated restOf restricted rootIn rootUnits rounded secondHalved separatedOf share spanAround spanBezier spanEnd spanOf splitSlot summed testsOf tooLarge total upperPart validateKnots validateMults endsDiffer endsTooLarge beyondOf validatePoles vectors verdictOf weightOf within add sub mul div neg le lt eq ofBits sum round size units isNan toBits wordAt floatAt wordsFrom floatsFrom badLength badCount sizeOf partOf weightsOf lineAfter walkOf hexDigit digitsOf placesIn decimalOf hexOf bitsOf floatText counted stepsText settledText listedText countLine floatTexts regionLine regionLines refusalLine zeros zeroDepths reportText searchText linesText answerOf
+unfolding oneDatum datumOut zeroMarks wholeTurn wordStands lineKind unrolledOf lineFlat turnOfPoles added alongAxis alongOneLine alphaOf apartAlong apartBy apartByNormal askWithin backOf between boundingBox boundsIn openBounds boxOf boxSize boxesApart chordOf clampOf coefficient copySlot cutTo cutsFrom dotOf eachTwo endOf every extentOf firsts flatKnots greatest hasWidth held homogeneousOf homogeneousPoles inside isLength isNear isNull isqrt knotOf least lerpOf lowerPart measured measuredBox measuredIn measuredVerdict middle mixOf netAt netOf placeOf netsOf normOf normalOf outOfMeasure paired parted passedOf piecesOf pointOf pointsFrom pointsOf rangeFits reachOf remains repeated restOf restricted rootIn rootUnits rounded secondHalved separatedOf share spanAround spanBezier spanEnd spanOf splitSlot summed testsOf tooLarge total upperPart validateKnots validateMults endsDiffer endsTooLarge beyondOf validatePoles vectors verdictOf weightOf within add sub mul div neg le lt eq ofBits sum round size units isNan toBits wordAt floatAt wordsFrom floatsFrom badLength badCount sizeOf partOf weightsOf lineAfter lineStands closing pairOf walkOf hexDigit digitsOf placesIn decimalOf hexOf bitsOf floatText counted stepsText settledText listedText countLine floatTexts regionLine regionLines refusalLine zeros zeroDepths reportText searchText linesText answerOf
 example-printed = refl

@@ -4,7 +4,7 @@ use mathlib.Core.List.{List, [], _∷_, _++_, map}
 use Prim.Native.Nat.{ℕ, _/_, _%_}
 use lib.ListN.{replicate}
 use Rattle.lists.specs.Parts.{joined}
-use Rattle.sheet.specs.Answers.{answerOf}
+use Rattle.charts.specs.Answers.{answerOf}
 
 -- "Words of 32 bits, little-endian"
 abbrev pub wordBytes : ℕ → List ℕ

@@ -1,5 +1,5 @@
 -- Which counts are bad, by the kind. Assumes nothing.
-use Rattle.walks.proofs.Laws.{bad-weights, bad-end, good-count}
+use Rattle.walks.proofs.Laws.{bad-weights, bad-bare, good-count}
 use Rattle.walks.proofs.bad_count.Statement.{statement}
 use Rattle.walks.proofs.bad_count.Tie as tie
 
@@ -7,7 +7,7 @@ returns : tie.Need-returns
 returns c = bad-weights (c .before .args .kind) (c .before .args .n) (c .match .keys1)
 
 returns-2 : tie.Need-returns-2
-returns-2 c = bad-end (c .before .args .kind) (c .before .args .n) (c .match .keys2)
+returns-2 c = bad-bare (c .before .args .kind) (c .before .args .n) (c .match .keys2)
 
 returns-3 : tie.Need-returns-3
 returns-3 c = good-count (c .before .args .kind) (c .before .args .n) (c .match .rest .0 .1) (c .match .rest .1)

@@ -1,6 +1,6 @@
 -- The bytes behind a word, by the kind. Assumes nothing.
 use borrow.Author.Needs.{needs}
-use Rattle.walks.proofs.Laws.{size-floats, size-mults, size-poles, size-question, size-none}
+use Rattle.walks.proofs.Laws.{size-floats, size-mults, size-poles, size-question, size-range, size-none}
 use Rattle.walks.proofs.size.Statement.{statement}
 use Rattle.walks.proofs.size.Tie as tie
 
@@ -26,13 +26,16 @@ returns-4 : tie.Need-returns-4
 returns-4 c = (size-question (c .before .args .kind) (c .before .args .n) (c .match .keys4), search needs)
 
 returns-5 : tie.Need-returns-5
-returns-5 c = (
-  size-none (c .before .args .kind) (c .before .args .n) (c .match .rest .0 .0 .0 .1) (c .match .rest .0 .0 .1) (c .match .rest .0 .1)
-      (c .match .rest .1),
+returns-5 c = (size-range (c .before .args .kind) (c .before .args .n) (c .match .keys5), search needs)
+
+returns-6 : tie.Need-returns-6
+returns-6 c = (
+  size-none (c .before .args .kind) (c .before .args .n) (c .match .rest .0 .0 .0 .0 .1) (c .match .rest .0 .0 .0 .1) (c .match .rest .0 .0 .1)
+      (c .match .rest .0 .1) (c .match .rest .1),
   search needs,
 )
 
 pub size-spec : {M : Type 1} → statement M
 size-spec =
     tie.close
-    (tie.spec mul-result mul-result-2 mul-result-3 returns returns-2 returns-3 returns-4 returns-5)
+    (tie.spec mul-result mul-result-2 mul-result-3 returns returns-2 returns-3 returns-4 returns-5 returns-6)

@@ -1,0 +1,3 @@
+pub mod Charts
+pub mod Found
+pub mod Answers
