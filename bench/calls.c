@@ -19,7 +19,7 @@ static size_t word_count, next;
 static struct line first, second;
 static double asked[5];
 static double pieces1[8112], pieces2[8112], nets1[7904], nets2[7904], ranges[304], raw[8190], report[8190];
-static uint8_t depths[76];
+static uint8_t depths[152];
 static uint32_t marks[819];
 static uint64_t state[LOVGURSHEM_STATE], counts[LOVGURSHEM_COUNTS];
 

@@ -9,7 +9,7 @@
 
 enum { MOST = 12800, WIDTH = 2, NODES = 1 + 64 };
 static double nets[2][4 * WIDTH * NODES], ranges[4 * NODES], raw[10 * MOST], report[10 * MOST];
-static uint8_t depths[NODES];
+static uint8_t depths[2 * NODES];
 static uint32_t marks[MOST];
 static uint64_t counts[LOVGURSHEM_COUNTS];
 
@@ -52,7 +52,7 @@ static double timed(size_t n, int turn, uint64_t *regions, uint64_t *groups)
         long turns = 0;
         do {
             if (lovgurshem_report(state, LOVGURSHEM_STATE, nets[0], 4 * WIDTH * NODES, nets[1], 4 * WIDTH * NODES, ranges, 4 * NODES,
-                    depths, NODES, raw, 10 * n, report, 10 * n, marks, n, counts, LOVGURSHEM_COUNTS) != 0)
+                    depths, 2 * NODES, raw, 10 * n, report, 10 * n, marks, n, counts, LOVGURSHEM_COUNTS) != 0)
                 exit(1);
             turns++;
             spent = seconds() - start;

@@ -68,7 +68,8 @@
  * double, a NaN's too. A step and the loop write words 2 to 7, 10 and 12 to 14;
  * the others, and words behind the last, are left alone. Own verdict and report
  * write none. A state whose words 12 to 14 don't sum to word 6 is no search's;
- * the sum isn't cut to 32 bits.
+ * the sum isn't cut to 32 bits. Nor is one with a depth over 32 at the top node,
+ * or with more nodes waiting than P and the sum of that node's two depths.
  *
  * The state and the lent memory (nets, ranges, depths, raw) belong together:
  * carry both on from call to call as the last one left them. Then each call
@@ -82,9 +83,13 @@
  *                      first, a period later)
  *   nets of a line     4 * width * (P + 64)
  *   ranges             4 * (P + 64)
- *   depths             P + 64
+ *   depths             2 * (P + 64)
  *   marks              P * (S + 1)
  *   raw, report        10 * P * (S + 1) each
+ * Node k, counted from 0 at the bottom, has slot k of the nets, of the ranges
+ * and of the depths: depths[2 * k] is how often the first line was halved on the
+ * way from its piece to the node, depths[2 * k + 1] how often the second, each at
+ * most 32.
  * P is at most the product of the two counts of pieces. A call that needs a slice
  * and is lent a shorter one is number 19; a step or report then changes nothing,
  * and lent enough the next call goes on. To learn P before the rest is lent, call
@@ -252,9 +257,11 @@ uint32_t lovgurshem_own_verdict(const uint64_t *state, size_t state_length,
  * the node and so loses nothing.
  *
  * Settled removes the node and counts it by the test that this number names,
- * whatever the own verdict is. Unseparated, or Split at depth 64, gives it up:
- * its region goes to raw. Split with no allowance left keeps it, and the search
- * ends. Any other Split halves it. At 0 the words are the next state's, and
+ * whatever the own verdict is. Unseparated, or Split with both depths at 32,
+ * gives it up: its region goes to raw, and no allowance is spent. Any other Split
+ * with no allowance left keeps it, and the search ends; with some it spends one
+ * and halves the line whose box is larger, of equal ones the second, but the
+ * other if that line's depth is 32. At 0 the words are the next state's, and
  * only the slots or the region that the step fills have changed. Refused 19
  * for words that are no state's, then 20, then 19; then nothing has changed.
  */

@@ -11,13 +11,15 @@ once a sheet. Answers are compared byte for byte with the first program's.
                 sheet, with --pieces)
   --no-drawn    leave the drawn sheets out
   --level L     the level of document 02: 1 (document 01), 100 (closed lines),
-                101 (stretch marks), 103 (box=, plane= and line=), 104 (data) or
-                105 (charts, the default). Sheets of higher levels are left out.
-                Below 104 every sheet is in the form of before, whose lines have
-                no datum, stored ones too; below 103 the three counts, below 101
-                the regions' marks too are dropped from all answers. Two programs
-                must be of the same side of M-100, whose kind 8 opens a line, and
-                of M-105, to which a sheet with no second line is a chart
+                101 (stretch marks), 103 (box=, plane= and line=), 104 (data),
+                105 (charts) or 106 (a depth for each line, the default). Sheets
+                of higher levels are left out. Below 104 every sheet is in the form
+                of before, whose lines have no datum, stored ones too; below 103
+                the three counts, below 101 the regions' marks too are dropped
+                from all answers. Two programs must be of the same side of M-100,
+                whose kind 8 opens a line, of M-105, to which a sheet with no
+                second line is a chart, and of M-106, whose searches go on where
+                those of before gave a node up, and the other way round
   --replay DIR  make the sheets from DIR/sheets.txt and hold every program
                 against DIR/answers.txt; SEED and N are left out
   --save DIR    where sheets with a difference are saved (default: .)
@@ -186,7 +188,7 @@ def generated(seed, count, with_drawn, level):
 
 
 def main(args):
-    flags = {'--pieces': False, '--no-drawn': False, '--level': '105', '--replay': None, '--save': '.'}
+    flags = {'--pieces': False, '--no-drawn': False, '--level': '106', '--replay': None, '--save': '.'}
     while args and args[0] in flags:
         flag = args.pop(0)
         flags[flag] = args.pop(0) if flag in ('--level', '--replay', '--save') else True

@@ -14,9 +14,10 @@
                                     document 02: 1 (document 01, the default),
                                     100 (closed lines), 101 (stretch marks),
                                     103 (settled by box, plane or line), 104
-                                    (data) or 105 (charts). --list and --replay
-                                    have that level's own sheets, --many those
-                                    of all levels up to it
+                                    (data), 105 (charts) or 106 (a depth for
+                                    each line). --list and --replay have that
+                                    level's own sheets, --many those of all
+                                    levels up to it
 
 All are written in the form of M-104, with a datum on each line; in_form(data, L)
 is a sheet in the form of an earlier level.
@@ -323,7 +324,7 @@ def checks():
 
 
 def point_contacts():
-    """Lines with points that coincide: depth 64 is reached."""
+    """Lines with points that coincide: depth 32 is reached on both."""
     loop = bezier([(0, 0, 0), (0, 0, 0), (1, 0, 0), (0, 1, 0)])
     yield 'loop-itself', sheet(loop, loop)
     for n in (2, 3, 5):
@@ -650,17 +651,19 @@ def merging():
         yield 'zig-back-gap%g' % g, sheet(segment((2, -1, 0), (2, 3, 0)), zig, S=60, gap=g)
 
 
-def zero_starts():
+def zero_starts(name='zero-starts', past=-20):
     """Two regions whose first starts are -0 and +0: halving -2^-1074 to 0 has
     the middle -0. The first line is a parabola of length 2^-50; the second has
-    one end at the middle of its parameters and one just below it."""
+    one end at the middle of its parameters and one just below it, each 2^past
+    of the range behind a start. A node of the first line at depth 32 is longer
+    than that only for a past below -32."""
     x, y, h = BINADE(-50), BINADE(-118), BINADE(-22)
     first = bezier([(0, 0, 0), (BINADE(20), 0, 0), (BINADE(21), BINADE(24), 0)], -4 * TINY, BINADE(-1000))
     at = lambda s, z: (x * s, y * s * s, z)
-    low, high = 7 / 16 + BINADE(-20), 8 / 16 + BINADE(-20)
-    for name, (s, t) in (('zero-starts', (high, low)), ('zero-starts-back', (low, high))):
+    low, high = 7 / 16 + BINADE(past), 8 / 16 + BINADE(past)
+    for way, (s, t) in (('', (high, low)), ('-back', (low, high))):
         second = polyline([at(s, 0.0), at(s, h), at(t, h), at(t, 0.0)])
-        yield name, sheet(first, second, S=200, ranges=[(-4 * TINY, 4 * TINY), None])
+        yield name + way, sheet(first, second, S=200, ranges=[(-4 * TINY, 4 * TINY), None])
 
 
 def tiny_coordinates():
@@ -1100,7 +1103,7 @@ def loops(path):
     return polyline([(1, -1, 0)] + [at[step] for step in path.replace('d', 'de')])
 
 
-def both_ways(name, a, b, S, ranges=(None, None), gap=0.0):
+def both_ways(name, a, b, S=256, ranges=(None, None), gap=0.0):
     """The sheet and, as -back, the one with the lines changed over."""
     yield name, sheet(a, b, S, ranges, gap)
     yield name + '-back', sheet(b, a, S, ranges[::-1], gap)
@@ -1626,6 +1629,127 @@ def charts_drawn():
         yield from part()
     for name, make in CHART_EXAMPLES:
         yield 'example-' + name, make()
+
+
+# ---- two depths (document 02, M-106) --------------------------------------------
+
+OUTFALL = segment((-300.0, 0.0, 0.0), (1000.0, 1.0, 0.0))
+QUAY = segment((0.25, -0.5, 0.0), (0.0, 1.0, 0.0))  # crosses OUTFALL off every middle
+RATIOS = (0, 1, 2, 5, 8, 11, 16, 20, 24, 30, 31, 32, 33, 34, 40, 50)
+
+
+def crossing_of(ratio, at=1 / 3, other=0.3, bend=0.0):
+    """Two lines that cross at these places, the first 2^ratio times as long; bent, of degree 2, the first upwards."""
+    l = BINADE(min(ratio, 20))
+    m = BINADE(min(ratio, 20) - ratio)
+    if bend == 0.0:
+        return segment((-at * l, 0.0, 0.0), ((1 - at) * l, 0.0, 0.0)), segment((0.0, -other * m, 0.0), (0.0, (1 - other) * m, 0.0))
+    places = lambda t: zip((-t, 0.5 - t, 1 - t), (t * t, t * t - t, (1 - t) * (1 - t)))  # the Bernstein points of u - t and of its square
+    return bezier([(x * l, 0.0, bend * l * z) for x, z in places(at)]), bezier([(bend * m * z, y * m, 0.0) for y, z in places(other)])
+
+
+def outfalls():
+    """A long line against a short one: the longer is halved to 32, then the other."""
+    for s in (256, 100, 31, 32, 33):
+        yield from both_ways('outfall-S%d' % s, OUTFALL, QUAY, s)
+    for ratio in RATIOS:
+        yield from both_ways('outfall-2^%d' % ratio, *crossing_of(ratio))
+        yield from both_ways('outfall-bent-2^%d' % ratio, *crossing_of(ratio, 0.25, 0.625, bend=0.125))
+        yield from both_ways('outfall-bent-third-2^%d' % ratio, *crossing_of(ratio, bend=0.5), gap=BINADE(-36))
+    for ratio in (0, 11, 24, 33):
+        # at both starts every later half waits, so as many nodes as there is room for; at both ends none does
+        for at in (0.0, 1.0):
+            yield from both_ways('outfall-ends-%g-2^%d' % (at, ratio), *crossing_of(ratio, at, at))
+        yield from both_ways('outfall-ends-apart-2^%d' % ratio, *crossing_of(ratio, 0.0, 1.0))
+        yield from both_ways('outfall-middles-2^%d' % ratio, *crossing_of(ratio, 0.5, 0.5))
+        for gap in (BINADE(-40), BINADE(-20), 1e-6, 0.01):
+            yield from both_ways('outfall-gap-%g-2^%d' % (gap, ratio), *crossing_of(ratio), gap=gap)
+    weighed = bezier([(-1000, 0, 0), (0, 0, 0), (700, 0, 0)], weights=[1, 3, 0.5])
+    yield from both_ways('outfall-weighed', weighed, QUAY)
+    yield from both_ways('outfall-part', OUTFALL, QUAY, ranges=[(0.125, 0.7), (0.0, 0.9)])
+
+
+def equal_boxes():
+    """Boxes of one size: the second is halved, at 32 of it the first."""
+    for at, other in ((0.5, 0.5), (1 / 3, 1 / 3), (0.3, 0.7), (0.0, 0.0), (1.0, 1.0), (0.0, 1.0)):
+        yield from both_ways('equal-%g-%g' % (at, other), *crossing_of(0, at, other))
+    for n in (2, 3, 4):
+        still = bezier([(1, 1, 1)] * n)
+        for s in (0, 31, 32, 33, 63, 64, 65, 66, 67, 68, 100, 256):
+            yield 'equal-points-%d-S%d' % (n, s), sheet(still, still, s)
+    for k in range(20, 36):
+        yield 'equal-point-S%d' % k, sheet(bezier([(0, 0, 0)] * 2), bezier([(0, 0, 0)] * 3), k)
+
+
+def deep_points():
+    """A point on a curve: the curve to 32, then the point."""
+    curves = {'arch': bezier([(0, 0, 0), (1, 2, 0), (2, 0, 0)]), 'cubic': bezier([(0, 0, 0), (1, 3, 1), (2, -3, 1), (3, 0, 0)]),
+              'line': segment((0, 0, 0), (3, 4, 5)), 'weighed': bezier([(1, 0, 0), (1, 1, 0), (0, 1, 0)], weights=[1, 0.5, 2])}
+    for name, c in curves.items():
+        places = {'start': c.poles[0], 'end': c.poles[-1], 'middle': point_at(c, 0.5), 'third': point_at(c, 1 / 3)}
+        for place, p in places.items():
+            for n in (2, 4):
+                yield from both_ways('deep-point-%s-%s-%d' % (name, place, n), bezier([p] * n), c, gap=0.0 if place != 'third' else 1e-15)
+        short = segment(places['third'], tuple(x + BINADE(-30) for x in places['third']))
+        yield from both_ways('deep-short-%s' % name, short, c)
+        for s in (31, 32, 33, 63, 64, 65):
+            yield from both_ways('deep-point-%s-S%d' % (name, s), bezier([places['start']] * 2), c, s)
+    yield from both_ways('deep-tangent', bezier([(0, 1, 0), (2, -1, 0), (4, 1, 0)]), segment((-3e5, 0, 0), (4e5, 0, 0)))
+
+
+def deep_allowances():
+    """Allowances that are dry at the last halvings, at 32 on both lines and behind them."""
+    for ratio in (0, 11, 33):
+        for at, other in ((1 / 3, 0.3), (0.0, 0.0), (1.0, 1.0)):
+            for s in list(range(30, 35)) + list(range(60, 70)) + [128, 255]:
+                yield from both_ways('deep-S%d-%g-2^%d' % (s, at, ratio), *crossing_of(ratio, at, other), S=s)
+
+
+def deep_pairs():
+    """Up to 12 pairs, the last pushed down to 32 on both lines: 76 nodes wait."""
+    for n in (1, 2, 3, 6, 11, 12, 13):
+        s = min(256, 819 // n - 1)
+        far = segment((-3e4, 0.3, 0.0), (5e4, 0.3, 0.0))
+        yield from both_ways('deep-comb-%d' % n, far, comb(n), s)
+        start = polyline([(n - 0.5 * k, 0.01 * (n - k), 0.0) for k in range(n)] + [(0.0, 0.0, 0.0), (0.0, 4e4, 0.0)])
+        yield from both_ways('deep-corner-%d' % n, start, segment((0, 0, 0), (0, -1, 1)), s)
+
+
+def deep_rings():
+    """Closed lines with a long side, and stretches that meet at the seam."""
+    long = ring(1, [0, 1, 2, 3], [1] * 4, [(0, 0, 0), (3e5, 1, 0), (0, 2e5, 0)])
+    for s in (0, 31, 33, 64, 90, 128):
+        yield from both_ways('deep-ring-S%d' % s, long, segment((1.5, -1, 0), (1, 1, 0)), s)
+        yield from both_ways('deep-seam-S%d' % s, long, DIAGONAL, s)
+        yield from both_ways('deep-seam-turned-S%d' % s, long, DIAGONAL, s, ranges=[turn_from(long, 1.5), None])
+        yield from both_ways('deep-two-rings-S%d' % s, long, ring(1, [0, 1, 2], [1] * 3, [(0, 0, 0), (-1, 0, 0)]), s)
+    curved = basin(3, 1, 4)
+    for t in (0.0, 0.3):
+        yield from both_ways('deep-basin-%g' % t, curved, across(curved, t, 3e5), 64)
+        yield from both_ways('deep-basin-point-%g' % t, curved, bezier([point_at(curved, t)] * 2), 64)
+
+
+def deep_zeros():
+    """Two first starts, -0 and +0, of regions at depth 32."""
+    yield from zero_starts('deep-zeros', -40)
+
+
+def deep_charts():
+    """Charts of which some lines go down to 32 with the track, and some don't."""
+    longs = [crossing_of(ratio)[0] for ratio in (0, 11, 24)]
+    shorts = [crossing_of(ratio)[1] for ratio in (0, 11, 24)]
+    for s in (0, 33, 64, 66, 256):
+        yield 'deep-chart-outfall-S%d' % s, chart([OUTFALL, QUAY, OFF, CROSSING, bezier([(0.0, 0.0, 0.0)] * 2), QUAY], S=s)
+        yield 'deep-chart-quay-S%d' % s, chart([QUAY, OUTFALL, OFF, UNIT, OUTFALL], S=s)
+        yield 'deep-chart-longs-S%d' % s, chart([shorts[0]] + longs, S=s)
+        yield 'deep-chart-shorts-S%d' % s, chart([longs[2]] + shorts, S=s)
+        yield 'deep-chart-gap-S%d' % s, chart([longs[1]] + shorts + [TRIANGLE], S=s, gap=BINADE(-33))
+
+
+def deep_drawn():
+    """All drawn sheets for two depths: (name, bytes)."""
+    for part in (outfalls, equal_boxes, deep_points, deep_allowances, deep_pairs, deep_rings, deep_zeros, deep_charts):
+        yield from part()
 
 
 # ---- random sheets --------------------------------------------------------------
@@ -2500,6 +2624,76 @@ def kind_chart_words(rng):
 CHART_KINDS = [(kind_chart, 40), (kind_chart_spoilt, 22), (kind_chart_words, 14), (kind_chart_comb, 12), (kind_chart_many, 6), (kind_chart_data, 6)]
 
 
+def deep_S(rng):
+    return rng.pick([256, 256, 256, 200, 100, 128, 31, 32, 33, 60 + rng.below(10), rng.below(257)])
+
+
+def turned(rng, a, b):
+    """Both lines by one turn of the axes and one shift, as a rule none, in either order."""
+    order = rng.pick([(0, 1, 2), (1, 2, 0), (2, 1, 0)])
+    off = rng.pick([(0.0, 0.0, 0.0), (0.0, 0.0, 0.0), tuple(random_coordinate(rng, 'unit') for _ in range(3))])
+    for l in (a, b):
+        l.poles = in_limits([tuple(p[i] + x for i, x in zip(order, off)) for p in l.poles])
+    return (b, a) if rng.chance(0.5) else (a, b)
+
+
+def random_crossing(rng):
+    """Two lines that cross, one up to 2^50 times as long as the other; or a point, or end at end."""
+    place = lambda: rng.pick([0.0, 1.0, 0.5, 1 / 3, rng.unit(), rng.unit()])
+    at = place()
+    a, b = crossing_of(rng.pick(RATIOS + (rng.below(51),)), at, at if rng.chance(0.3) else place(), rng.pick([0.0, 0.0, 0.125, rng.unit()]))
+    if rng.chance(0.15):
+        b = bezier([point_at(a, place())] * (2 + rng.below(3)))
+    if rng.chance(0.15):
+        a.weights = random_weights(rng, len(a.poles))
+    return turned(rng, a, b)
+
+
+def deep_gap(rng):
+    return rng.pick([0.0, 0.0, 0.0, 0.0, BINADE(-20 - rng.below(40)), 1e-6, 0.01])
+
+
+def kind_outfall(rng):
+    a, b = random_crossing(rng)
+    return sheet(a, b, deep_S(rng), None, deep_gap(rng))
+
+
+def kind_outfall_spans(rng):
+    """A line of a few spans, one of them long, against a short one."""
+    points = [tuple(random_coordinate(rng, 'unit') for _ in range(3)) for _ in range(2 + rng.below(3))]
+    far = BINADE(rng.below(24))
+    long = polyline([tuple(x * far for x in points[0])] + points[1:])
+    p = point_at(long, rng.pick([0.0, 1.0, rng.unit()]))
+    size = BINADE(-rng.below(24))
+    way = [random_coordinate(rng, 'unit') * size for _ in range(3)]
+    short = segment(tuple(x - 0.3 * w for x, w in zip(p, way)), tuple(x + 0.7 * w for x, w in zip(p, way)))
+    a, b = (long, short) if rng.chance(0.5) else (short, long)
+    return sheet(a, b, rng.pick([60, 64, 66, 100, 200]), None, rng.pick([0.0, BINADE(-30), BINADE(-12)]))
+
+
+def kind_outfall_ring(rng):
+    """A ring, and a long line across it or a point on it."""
+    l, lo = seam_ring(rng)
+    t = rng.pick([lo, rng.between(*l.bounds())])
+    other = across(l, t, BINADE(rng.below(24))) if rng.chance(0.7) else bezier([point_at(l, t)] * 2)
+    if not all(abs(x) <= BINADE(24) for p in other.poles for x in p):
+        other = across(l, t, 4.0)
+    pair, ranges = [l, other], [seam_range(rng, l, lo), None]
+    if rng.chance(0.5):
+        pair, ranges = pair[::-1], ranges[::-1]
+    return sheet(pair[0], pair[1], rng.pick([32, 60, 64, 68, 100, 200]), ranges, deep_gap(rng))
+
+
+def kind_outfall_chart(rng):
+    """A chart whose lines, longer and shorter, cross the track."""
+    track, first = random_crossing(rng)
+    lines = [track, first] + [rng.pick(random_crossing(rng)) for _ in range(rng.below(3))]
+    return chart(lines, deep_S(rng), None, deep_gap(rng))
+
+
+DEEP_KINDS = [(kind_outfall, 55), (kind_outfall_spans, 15), (kind_outfall_ring, 15), (kind_outfall_chart, 15)]
+
+
 def random_sheet(rng, kinds):
     """(kind, bytes) of one random sheet."""
     at = rng.below(sum(n for _, n in kinds))
@@ -2513,7 +2707,7 @@ def random_sheets(seed, count, level=1):
     """`count` random sheets; sheet i depends on the seed, i and the level alone. From level 100 on
     those at 0, 3, 6, .. have closed lines, from 101 on those at 1, 4, 7, .. turns, from 103 on those at
     2, 8, 14, .. lines that each test clears, from 104 on those at 5, 17, 29, .. data, from 105 on those at
-    4, 9, 16, 21, .. are charts; the others stay."""
+    4, 9, 16, 21, .. are charts, from 106 on those at 6, 7, 18, 19, .. reach depth 32; the others stay."""
     new = {}
     if level >= 100:
         new.update({i: CLOSED_KINDS for i in (0, 3, 6, 9)})
@@ -2525,6 +2719,8 @@ def random_sheets(seed, count, level=1):
         new[5] = DATED_KINDS
     if level >= 105:
         new.update({i: CHART_KINDS for i in (4, 9)})
+    if level >= 106:
+        new.update({i: DEEP_KINDS for i in (6, 7)})
     for i in range(count):
         yield random_sheet(Rng(seed * 1000003 + i), new.get(i % 12, KINDS))
 
@@ -2591,6 +2787,10 @@ DATED_GROUPS = [(data_pairs, 1), (data_faults, 1), (data_words, 1)]
 
 CHART_SEED, CHART_TRIED, CHART_BYTES, CHART_TEXT = 105, 12000, 640, 1600
 CHART_GROUPS = [(chart_sizes, 1), (chart_faults, 1), (chart_orders, 1), (chart_unread, 1), (chart_words, 1), (chart_reports, 1)]
+
+
+DEEP_SEED, DEEP_TRIED, DEEP_BYTES, DEEP_TEXT = 106, 12000, 800, 3000
+DEEP_GROUPS = [(outfalls, 1), (equal_boxes, 1), (deep_points, 1), (deep_allowances, 1), (deep_pairs, 1), (deep_rings, 1), (deep_zeros, 1), (deep_charts, 1)]
 
 
 def thinned(program, groups):
@@ -2678,6 +2878,28 @@ def chart_replay_sheets(program):
             yield data, answer
 
 
+def deep_bucket(kind, answer):
+    """The bucket with the nodes given up and left, few or many."""
+    if answer.startswith('refused '):
+        return bucket(kind, answer)[0]
+    count = counts(answer)
+    return bucket(kind, answer)[0] + (min(count['given'], 4), min(count['left'], 3), len(reports(answer)))
+
+
+def deep_replay_sheets(program):
+    """(bytes, answer) of the replay list for two depths: the drawn sheets, then random ones, one of each bucket."""
+    yield from thinned(program, DEEP_GROUPS)
+    taken = set()
+    for i, (kind, data) in enumerate(random_sheets(DEEP_SEED, DEEP_TRIED, 106)):
+        if i % 12 not in (6, 7) or len(data) > DEEP_BYTES:
+            continue
+        answer = answer_of(program, data)
+        at = deep_bucket(kind, answer)
+        if at not in taken and len(answer) <= DEEP_TEXT:
+            taken.add(at)
+            yield data, answer
+
+
 def closed_replay_sheets(program):
     """(bytes, answer) of the replay list with closed lines: drawn sheets, thinned
     by group, then random ones, a few of each bucket."""
@@ -2731,9 +2953,9 @@ def write_answers(folder, answers):
     print('%d sheets' % len(answers))
 
 
-DRAWN = {1: drawn, 100: closed_drawn, 101: marked_drawn, 103: tagged_drawn, 104: dated_drawn, 105: charts_drawn}
+DRAWN = {1: drawn, 100: closed_drawn, 101: marked_drawn, 103: tagged_drawn, 104: dated_drawn, 105: charts_drawn, 106: deep_drawn}
 REPLAYS = {1: replay_sheets, 100: closed_replay_sheets, 101: marked_replay_sheets, 103: tagged_replay_sheets, 104: dated_replay_sheets,
-           105: chart_replay_sheets}
+           105: chart_replay_sheets, 106: deep_replay_sheets}
 
 
 def drawn_up_to(level):

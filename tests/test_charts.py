@@ -240,7 +240,7 @@ def main(args):
         subprocess.run(['rt', 'check', 'clearance'], cwd=ROOT, check=True, stdout=subprocess.DEVNULL)
     path = args[0] if args else str(ROOT / 'target/bin/clearance')
     seed, areas = (int(args[1]), int(args[2])) if len(args) == 3 else (1, 300)
-    program = compare.Program(path, False, 105)
+    program = compare.Program(path, False, 106)
     wrong = run_known(program) + run(program, seed, areas)
     if not args:
         wrong += run_unwritten(path)

@@ -113,8 +113,8 @@ with tempfile.TemporaryDirectory() as folder:
     shared = pathlib.Path(folder) / "liblovgurshem.so"
     subprocess.run(["cc", "-shared", "-o", shared, "-Wl,--whole-archive", LIBRARY, "-Wl,--no-whole-archive"], check=True)
     calls, count, charts = Calls(shared), 0, 0
-    for name in ("answers101", "answers104", "answers105"):
-        for what, sheet, answer in compare.replay(ROOT / "tests" / name, 105):
+    for name in ("answers101", "answers104", "answers105", "answers106"):
+        for what, sheet, answer in compare.replay(ROOT / "tests" / name, 106):
             parts = check(calls, sheet, answer.encode(), f"{name}, {what}")
             count, charts = count + 1, charts + (len(parts) > 1)
             if len(parts) > 60:

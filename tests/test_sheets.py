@@ -25,7 +25,7 @@ for part in (EXAMPLE[:7], EXAMPLE[7:100], EXAMPLE[100:]):  # a sheet that comes 
     time.sleep(0.05)
 if slow.communicate()[0] != (ROOT / "crates/clearance/stdout").read_bytes():
     sys.exit("sheets: the example's answer differs when it comes in pieces")
-for answers in ("answers", "answers100", "answers101", "answers103", "answers104", "answers105"):
+for answers in ("answers", "answers100", "answers101", "answers103", "answers104", "answers105", "answers106"):
     with tempfile.TemporaryDirectory() as folder:
         done = subprocess.run([sys.executable, "-B", ROOT / "tests/compare.py", "--save", folder, "--replay", ROOT / "tests" / answers, PROGRAM])
     if done.returncode != 0:

@@ -13,7 +13,7 @@ for path in sorted(ROOT.glob("tests/answers*/sheets.txt")):
     count += len(listed)
     if sheet_text.file_text(listed) != path.read_text():
         bad.append(f"{path} is not the text of its sheets")
-for name, data in [*sheets.drawn_up_to(105), *sheets.random_sheets(1, 3000, 105)]:
+for name, data in [*sheets.drawn_up_to(106), *sheets.random_sheets(1, 3000, 106)]:
     count += 1
     if sheet_text.sheet_from(sheet_text.text_of(data)) != data:
         bad.append(f"{name}: other bytes come back from its text")

@@ -43,7 +43,7 @@ static uint8_t *depths;
 #define NETS1 nets1, 4 * WIDTH1 * nodes
 #define NETS2 nets2, 4 * WIDTH2 * nodes
 #define RANGES ranges, 4 * nodes
-#define DEPTHS depths, nodes
+#define DEPTHS depths, 2 * nodes
 #define RAW raw, 10 * regions
 #define REPORT report, 10 * regions
 #define MARKS marks, regions
@@ -62,7 +62,7 @@ static int lend(uint64_t p)
     nets1 = calloc(4 * WIDTH1 * nodes, sizeof *nets1);
     nets2 = calloc(4 * WIDTH2 * nodes, sizeof *nets2);
     ranges = calloc(4 * nodes, sizeof *ranges);
-    depths = calloc(nodes, sizeof *depths);
+    depths = calloc(2 * nodes, sizeof *depths);
     raw = calloc(10 * regions + 1, sizeof *raw); /* a pointer isn't NULL, also where P is 0 */
     report = calloc(10 * regions + 1, sizeof *report);
     marks = calloc(regions + 1, sizeof *marks);

@@ -117,7 +117,7 @@ impl Search {
             nets1: vec![0.0; w1 * nodes],
             nets2: vec![0.0; w2 * nodes],
             ranges: vec![0.0; 4 * nodes],
-            depths: vec![0; nodes],
+            depths: vec![0; 2 * nodes],
             raw: vec![0.0; 10 * pairs * (splits as usize + 1)],
         };
         let no = unsafe {

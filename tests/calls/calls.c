@@ -13,7 +13,8 @@
  * with any terms (whole turns, asked ends), and in one of three the memory too.
  * Before the lists come steps with each number of a list of verdicts, states
  * with each of a list of tag counts, and nodes that one test clears, settled
- * with each tag (02, M-103).
+ * with each tag (02, M-103); then Splits alone down to 32 on both lines, nodes
+ * with each of a list of depths, and depths of any length (02, M-106).
  * Prints counts of each kind of call by number, of groups of regions, and
  * differences; exits 1 if there is one.
  *
@@ -77,7 +78,7 @@ typedef struct {
 static World lib, model;
 static size_t cap[SLICES], depth_cap, mark_cap;
 static const size_t room[SLICES] = { 16384, 16384, 131072, 131072, 16384, 65536, 65536 };
-enum { GUARD = 16, DEPTHS = 4096, MARKS = 8192 };
+enum { GUARD = 16, DEPTHS = 8192, MARKS = 8192 };
 
 static void new_worlds(void)
 {
@@ -104,7 +105,7 @@ static void fill_worlds(int wild)
         for (size_t j = 0; j < cap[i] + GUARD; j++)
             lib.f[i][j] = model.f[i][j] = filler(i, wild);
     for (size_t j = 0; j < depth_cap + GUARD; j++)
-        lib.depths[j] = model.depths[j] = (uint8_t)(one_in(4) ? chance() : below(66));
+        lib.depths[j] = model.depths[j] = (uint8_t)(one_in(4) ? chance() : below(34));
     for (size_t j = 0; j < mark_cap + GUARD; j++)
         lib.marks[j] = model.marks[j] = one_in(2) ? (uint32_t)chance() : (uint32_t)below(9);
 }
@@ -126,10 +127,10 @@ static const char *kind_name[] = { "open", "step Settled by box", "step Settled 
                                    "step Unseparated", "own verdict", "run", "report", "examine" };
 static uint64_t counts[KINDS][32], calls, differences, forged_calls, short_calls, forged_passed;
 static uint64_t list_number, call_number, lists_seed;
-static uint64_t halved[2], deep, stopped, merged_regions, raw_regions;
+static uint64_t halved[2], gave_way[2], deep[2], stopped, merged_regions, raw_regions; /* deep: with allowance 0, with more */
 static uint64_t groups[2], turned, whole_openings;
 static uint64_t tagged[TAGS][TAGS], told_tags[TAGS]; /* steps by the own verdict and the step's tag; reports with a tag's count over 0 */
-static uint64_t swept_verdicts, swept_sums[2], swept_tags;
+static uint64_t swept_verdicts, swept_sums[2], swept_tags, swept_depths[2], swept_lengths, descents;
 static int forged; /* whether the call's state is forged */
 static uint64_t spoiled[STATE_WORDS], spoiled_passed[STATE_WORDS], few_words, few_counts, odd_gaps, wide_verdicts;
 
@@ -281,13 +282,14 @@ static void count(int kind, int number)
 /* What the state needs, as far as there is memory; one slice in some calls
  * shorter: by one, by any amount, or empty. Longer than needed in others. */
 static Lent lent[2];
+static size_t depths_lent; /* if not 0, so many depths are lent */
 
 static void choose_lent(const State *s)
 {
     last = *s;
     uint64_t nodes = (uint64_t)s->pairs + 64;
     uint64_t raw = 10 * (uint64_t)s->pairs * ((uint64_t)s->quota + 1);
-    uint64_t need[SLICES + 2] = { 0, 0, nodes * 4 * s->width[0], nodes * 4 * s->width[1], 4 * nodes, raw, raw, nodes, raw / 10 };
+    uint64_t need[SLICES + 2] = { 0, 0, nodes * 4 * s->width[0], nodes * 4 * s->width[1], 4 * nodes, raw, raw, 2 * nodes, raw / 10 };
     size_t n[SLICES + 2];
     int exact = one_in(3);
     for (int i = 0; i < SLICES + 2; i++) {
@@ -300,6 +302,7 @@ static void choose_lent(const State *s)
         short_calls++;
         n[i] = one_in(3) ? below(least + 1) : one_in(8) ? 0 : least > 0 ? least - 1 : 0;
     }
+    if (depths_lent > 0) n[SLICES] = depths_lent;
     lent[0] = lend(&lib, n, n[SLICES], n[SLICES + 1]);
     lent[1] = lend(&model, n, n[SLICES], n[SLICES + 1]);
 }
@@ -349,16 +352,30 @@ static void fill_free(const State *s)
     filled_steps++;
 }
 
+/* What a Split did to a node of these depths: which line it halved, and whether
+ * in the place of one at 32; or that it gave up a node with both at 32. */
+static void count_split(const State *old, const State *s, const uint8_t was[2])
+{
+    const uint8_t *d = model.depths + 2 * ((size_t)old->waiting - 1);
+    if (s->splits > old->splits) {
+        int line = d[1] != was[1];
+        halved[line]++;
+        gave_way[line] += was[1 - line] == 32;
+    }
+    if (s->given > old->given) deep[old->unspent > 0]++;
+}
+
 static int do_step(State *s, uint32_t handed)
 {
     Verdict v = verdict_of(handed);
-    int kind = STEP + (int)v, no, was_top;
+    int kind = STEP + (int)v, no;
+    uint8_t was[2] = { 0, 0 };
     State old = *s;
     Lent *a = &lent[0], *b = &lent[1];
     if (filling) fill_free(s);
     choose_lent(s);
     hand_words(s);
-    was_top = s->waiting > 0 && s->waiting <= depth_cap ? model.depths[s->waiting - 1] : 0;
+    if (s->waiting > 0 && 2 * (size_t)s->waiting <= depth_cap) memcpy(was, model.depths + 2 * (size_t)s->waiting - 2, 2);
     uint32_t got = lovgurshem_step(handed, words[0], words_lent,
         PART(a->nets[0]), PART(a->nets[1]), PART(a->ranges), PART(a->depths), PART(a->raw));
     no = call_step(handed, words[1], words_lent, b);
@@ -366,12 +383,7 @@ static int do_step(State *s, uint32_t handed)
     compare_words(kind, no);
     if (no == 0) {
         next_state(s);
-        if (s->splits > old.splits) {
-            size_t top = 4 * (size_t)(old.waiting - 1);
-            double *r = model.f[RANGES] + top;
-            halved[memcmp(r, r + 4, 2 * sizeof *r) == 0]++;
-        }
-        deep += v == SPLIT && was_top == 64;
+        if (v == SPLIT) count_split(&old, s, was);
         stopped += s->stopped && !old.stopped;
     }
     count(kind, no);
@@ -624,7 +636,7 @@ static int do_open(State *s, int spoil)
     if (one_in(8)) {
         int i = (int)below(SLICES + 1);
         short_calls++;
-        n[i] = below(i == SLICES ? 70 : i == RANGES ? 280 : i == RAW ? 200 : 1200);
+        n[i] = below(i == SLICES ? 140 : i == RANGES ? 280 : i == RAW ? 200 : 1200);
         if (i <= PIECES2 && !one_in(4)) n[i] = (1 + below(4)) * 4 * (d[i].given.degree % 32 + 1) - below(2);
         if (n[i] > (i == SLICES ? depth_cap : cap[i])) n[i] = 0;
     }
@@ -743,7 +755,24 @@ static void share(State *s)
     for (int i = 0; i < TAGS; i++) s->by[i] = part[(i + from) % TAGS];
 }
 
-/* A state that passes the six tests (if the top node's depth lets it), and
+/* Both memories get these depths in slot k, where there is one. */
+static void put_depths(size_t k, uint64_t first, uint64_t second)
+{
+    if (2 * k + 2 > depth_cap) return;
+    lib.depths[2 * k] = model.depths[2 * k] = (uint8_t)first;
+    lib.depths[2 * k + 1] = model.depths[2 * k + 1] = (uint8_t)second;
+}
+
+/* Two depths with this sum, if each may be at most 32 or one more. */
+static void put_sum(size_t k, uint64_t sum)
+{
+    uint64_t most = 32 + (uint64_t)one_in(8), first;
+    if (sum > 2 * most) sum = 2 * most;
+    first = sum > most ? sum - most + below(2 * most - sum + 1) : below(sum + 1);
+    put_depths(k, first, sum - first);
+}
+
+/* A state that passes the six tests (if the top node's depths let it), and
  * that no list of calls need have made. */
 static void invent(State *s)
 {
@@ -767,9 +796,8 @@ static void invent(State *s)
     if (one_in(6)) s->gap = float_of(odd_bits());
     if (!one_in(3)) invent_terms(s);
     if (s->waiting > 0) {
-        size_t top = s->waiting - 1;
-        uint8_t least_depth = s->waiting > s->pairs ? (uint8_t)(s->waiting - s->pairs) : 0;
-        lib.depths[top] = model.depths[top] = (uint8_t)(one_in(3) ? least_depth + below(2) : one_in(3) ? 64 - below(2) : least_depth + below(64));
+        uint64_t least_sum = s->waiting > s->pairs ? s->waiting - s->pairs : 0;
+        put_sum(s->waiting - 1, one_in(3) ? least_sum + below(2) : one_in(3) ? 64 - below(2) : least_sum + below(64));
     }
 }
 
@@ -783,9 +811,9 @@ static void forge_memory(const State *s)
                   : slice == RANGES ? top * 4 + below(4) : below(cap[slice]);
         if (at >= cap[slice]) at = below(cap[slice]);
         lib.f[slice][at] = model.f[slice][at] = filler(slice, 1);
-        if (one_in(2) && top < depth_cap) {
-            static const uint8_t d[] = { 0, 1, 62, 63, 64, 65, 255 };
-            lib.depths[top] = model.depths[top] = d[below(7)];
+        if (one_in(2)) {
+            static const uint8_t d[] = { 0, 1, 31, 32, 32, 33, 64, 255 };
+            put_depths(top, d[below(8)], d[below(8)]);
         }
     }
 }
@@ -817,7 +845,7 @@ static State small_search(int deep_top, uint32_t unspent)
 {
     State s = { .pairs = 3, .quota = 2, .waiting = 1, .visits = 14 - 2 * unspent, .splits = 6 - unspent, .unspent = unspent,
                 .settled = 7 - unspent, .given = 1, .by = { 1, 1, 5 - unspent }, .width = { 2, 2 } };
-    lib.depths[0] = model.depths[0] = deep_top ? 64 : 5;
+    put_depths(0, deep_top ? 32 : 2, deep_top ? 32 : 3);
     return s;
 }
 
@@ -905,18 +933,141 @@ static void each_tag(void)
         }
 }
 
+/* ---- two depths a node (02, M-106) -------------------------------------- */
+
+/* Both memories get a net from the origin to x, 0, 0 in the first slot. */
+static void put_lengths(double x, double y)
+{
+    double net[2][8] = { { 0, 0, 0, 1, x, 0, 0, 1 }, { 0, 0, 0, 1, y, 0, 0, 1 } };
+    for (int i = 0; i < 2; i++) {
+        memcpy(lib.f[NETS1 + i], net[i], sizeof net[i]);
+        memcpy(model.f[NETS1 + i], net[i], sizeof net[i]);
+    }
+}
+
+/* Splits alone, from lines so long down to 32 on both, with 64 splits or more;
+ * with 64 the node at 32 and 32 is met at allowance 0. */
+static void descend(double x, double y, uint16_t quota)
+{
+    State s = { .pairs = 1, .quota = quota, .waiting = 1, .unspent = quota, .width = { 2, 2 } };
+    uint64_t before = deep[0] + deep[1];
+    put_lengths(x, y);
+    put_depths(0, 0, 0);
+    while (!has_ended(&s))
+        if (do_step(&s, LOVGURSHEM_SPLIT) != 0) {
+            differs(STEP + SPLIT, "refused", 0, 0);
+            return;
+        }
+    if (do_report(&s) != 0) differs(TELL, "refused", 0, 0);
+    if (deep[0] + deep[1] - before < 2 || s.waiting == 0) differs(STEP + SPLIT, "not down to 32 and 32", s.waiting, s.given);
+    descents++;
+}
+
+/* The first line's box larger all the way, the second's, both of one size, and
+ * each larger by turns; measured, or without a measure. */
+static void each_descent(void)
+{
+    static const double length[][2] = { { 0x1p20, 0 }, { 0, 0x1p20 }, { 0, 0 }, { 1, 1 }, { 1, 0.75 }, { 0.75, 1 }, { 0x1p20, 1 }, { 1, 0x1p20 },
+                                        { 0x1p10, 3 }, { 3, 0x1p10 }, { 0x1p30, 1 }, { 1, 0x1p30 }, { 0x1p40, 0x1p40 }, { 0x1p30, 0x1p40 }, { NAN, 1 }, { 1, NAN } };
+    static const uint16_t quota[] = { 64, 65, 66, 100, 256 };
+    for (size_t i = 0; i < sizeof length / sizeof *length; i++)
+        for (size_t j = 0; j < sizeof quota / sizeof *quota; j++) descend(length[i][0], length[i][1], quota[j]);
+}
+
+/* An own verdict, a step, a loop and a report of a search with so many nodes
+ * waiting and these depths of the top one; 02: "the top node's depth is the sum
+ * of its two, and either over 32 meets 19 too". */
+static void calls_at(uint32_t waiting, uint32_t first, uint32_t second)
+{
+    enum { PAIRS = 2, QUOTA = 40 };
+    uint32_t splits = waiting > PAIRS ? waiting - PAIRS : 0, given = PAIRS + splits - waiting;
+    State s = { .pairs = PAIRS, .quota = QUOTA, .waiting = waiting, .visits = splits + given, .splits = splits, .unspent = PAIRS * QUOTA - splits,
+                .given = given, .width = { 2, 2 } }, t = s, u = s;
+    int fit = waiting <= PAIRS + first + second && first <= 32 && second <= 32, passed;
+    u.stopped = 1;
+    for (size_t k = 0; k + 1 < waiting; k++) put_depths(k, k / 2, k - k / 2);
+    put_depths(waiting - 1, first, second);
+    passed = do_own(&s) <= 5;
+    passed += do_report(&u) == 0;
+    passed += do_step(&s, 1 + (uint32_t)below(5)) == 0;
+    put_depths(waiting - 1, first, second);
+    passed += do_run(&t) == 0;
+    if (passed != (fit ? 4 : 0)) differs(TELL, "own verdict, report, step or run passed", passed, fit ? 4 : 0);
+    swept_depths[fit]++;
+}
+
+static void each_depth(void)
+{
+    static const uint8_t edge[] = { 0, 1, 2, 30, 31, 32, 33, 34, 63, 64, 65, 127, 128, 223, 224, 254, 255 };
+    enum { EDGES = sizeof edge };
+    for (int i = 0; i < EDGES; i++)
+        for (int j = 0; j < EDGES; j++) {
+            uint32_t both = 2 + (uint32_t)edge[i] + edge[j];
+            const uint32_t waiting[] = { 1, 2, 3, 34, 35, 65, 66, 67, 68, both - 1, both, both + 1 };
+            for (size_t k = 0; k < sizeof waiting / sizeof *waiting; k++)
+                if (waiting[k] <= 68) calls_at(waiting[k], edge[i], edge[j]);
+        }
+}
+
+/* A Split of a node with each depth from 30 to 32 on both lines, 0 too, and with
+ * each order of the boxes, at each allowance. */
+static void each_division(void)
+{
+    static const uint8_t depth[] = { 0, 1, 30, 31, 32 };
+    static const double length[][2] = { { 2, 1 }, { 1, 2 }, { 1, 1 } };
+    for (int i = 0; i < 5; i++)
+        for (int j = 0; j < 5; j++)
+            for (int k = 0; k < 3; k++)
+                for (uint16_t quota = 0; quota < 3; quota++) {
+                    State s = { .pairs = 1, .quota = quota, .waiting = 1, .unspent = quota, .width = { 2, 2 } };
+                    put_lengths(length[k][0], length[k][1]);
+                    put_depths(0, depth[i], depth[j]);
+                    if (do_step(&s, LOVGURSHEM_SPLIT) != 0) differs(STEP + SPLIT, "refused", depth[i], depth[j]);
+                    if (depth[i] == 32 && depth[j] == 32) compare_number(STEP + SPLIT, "unspent with both at 32", s.unspent, quota);
+                }
+}
+
+/* Two a node: 132 for two pairs. One short, of odd length, one a node; and with
+ * 67 nodes said to wait, the slot of the top one lent in part. */
+static void each_length(void)
+{
+    for (depths_lent = 1; depths_lent <= 2 * 68 + 1; depths_lent++) {
+        State s = { .pairs = 2, .quota = 40, .waiting = 2, .unspent = 80, .width = { 2, 2 } }, t = s, u = s, f = s;
+        int passed, enough = depths_lent >= 132;
+        u.stopped = 1;
+        f.waiting = 67;
+        f.splits = 65;
+        f.unspent = 15;
+        put_depths(0, 0, 0);
+        put_depths(1, 3, 4);
+        put_depths(66, 32, 32);
+        passed = do_own(&s) <= 5;
+        passed += do_report(&u) == 0;
+        passed += do_step(&s, LOVGURSHEM_SPLIT) == 0;
+        passed += do_run(&t) == 0;
+        if (passed != (enough ? 4 : 0)) differs(TELL, "own verdict, report, step or run passed with so many depths", (double)depths_lent, passed);
+        if (do_own(&f) <= 5 || do_step(&f, LOVGURSHEM_SPLIT) == 0) differs(STEP, "67 nodes of two pairs passed with so many depths", (double)depths_lent, 0);
+        swept_lengths++;
+    }
+    depths_lent = 0;
+}
+
 static void sweep(void)
 {
     cap[PIECES1] = cap[PIECES2] = 0;
-    cap[NETS1] = cap[NETS2] = 8 * 67;
-    cap[RANGES] = 4 * (depth_cap = 67);
-    cap[RAW] = cap[REPORT] = 90;
-    mark_cap = 9;
+    cap[NETS1] = cap[NETS2] = 8 * 68;
+    cap[RANGES] = 4 * 68;
+    depth_cap = 2 * 68;
+    cap[RAW] = cap[REPORT] = 10 * (mark_cap = 257);
     fill_worlds(0);
     plain = 1;
     each_verdict();
     each_sum();
     each_tag();
+    each_descent();
+    each_depth();
+    each_division();
+    each_length();
     plain = 0;
 }
 
@@ -982,7 +1133,7 @@ static void one_list(uint64_t least_calls, uint64_t most_calls)
     spans = big ? 129 : one_in(2) ? 2 : 5;
     cap[PIECES1] = cap[PIECES2] = big ? 16000 : 700;
     cap[NETS1] = cap[NETS2] = big ? 104 * 4 * 255 : one_in(3) ? 104 * 4 * 27 : 104 * 4 * 6;
-    cap[RANGES] = 4 * (depth_cap = big ? 4000 : 104);
+    cap[RANGES] = 2 * (depth_cap = big ? 8000 : 208);
     cap[RAW] = cap[REPORT] = big ? 60000 : one_in(3) ? 16000 : 6000;
     mark_cap = cap[RAW] / 10;
     fill_worlds(wild && forging);
@@ -1067,8 +1218,11 @@ int main(int argc, char **argv)
     printf("steps Settled by box, plane, line with the own verdict by box %lu %lu %lu, by plane %lu %lu %lu, by line %lu %lu %lu\n",
            (unsigned long)tagged[0][0], (unsigned long)tagged[0][1], (unsigned long)tagged[0][2], (unsigned long)tagged[1][0], (unsigned long)tagged[1][1],
            (unsigned long)tagged[1][2], (unsigned long)tagged[2][0], (unsigned long)tagged[2][1], (unsigned long)tagged[2][2]);
-    printf("halved first %lu, second %lu; given up at depth 64 %lu; stopped %lu; regions raw %lu, merged %lu\n",
-           (unsigned long)halved[0], (unsigned long)halved[1], (unsigned long)deep, (unsigned long)stopped, (unsigned long)raw_regions, (unsigned long)merged_regions);
+    printf("halved first %lu, second %lu, of these with the other at 32 %lu, %lu; Split with both at 32 %lu, at allowance 0 %lu; stopped %lu; regions raw %lu, merged %lu\n",
+           (unsigned long)halved[0], (unsigned long)halved[1], (unsigned long)gave_way[0], (unsigned long)gave_way[1], (unsigned long)deep[1], (unsigned long)deep[0],
+           (unsigned long)stopped, (unsigned long)raw_regions, (unsigned long)merged_regions);
+    printf("descents by Split alone %lu; depths of a top node that fit %lu, that don't %lu; lengths of the depths %lu\n",
+           (unsigned long)descents, (unsigned long)swept_depths[1], (unsigned long)swept_depths[0], (unsigned long)swept_lengths);
     printf("steps with every free slot of the nets filled %lu\n", (unsigned long)filled_steps);
     printf("openings with lines of one datum %lu, with others %lu\n", (unsigned long)data_drawn[0], (unsigned long)data_drawn[1]);
     printf("openings with a whole turn %lu; reports with one %lu; with a group %lu, and of a forged state %lu\n",

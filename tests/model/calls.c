@@ -1,6 +1,6 @@
 /*
  * The library's operations as document 01 has them, with 02's M-100, M-101,
- * M-103 and M-104, on lent memory of any length and on any state: the table's
+ * M-103, M-104 and M-106, on lent memory of any length and on any state: the table's
  * numbers 4 to 23 and the paragraph under it, Search, Merging, marks, tags. The
  * parts of a sheet's answer (admission, data, breaks, pieces, boxes, tests,
  * halving, merging, the neighbours' chains) are clearance.c's.
@@ -140,7 +140,7 @@ static int nets_fit(const State *s, const Lent *m)
     uint64_t nodes = (uint64_t)s->pairs + 64;
     return nodes * 4 * s->width[0] <= m->nets[0].length
         && nodes * 4 * s->width[1] <= m->nets[1].length
-        && nodes <= m->depths.length;
+        && 2 * nodes <= m->depths.length;
 }
 
 static int slices_fit(const State *s, const Lent *m)
@@ -150,21 +150,27 @@ static int slices_fit(const State *s, const Lent *m)
         && 10 * (uint64_t)s->pairs * ((uint64_t)s->quota + 1) <= m->raw.length;
 }
 
+/* 02, M-106: "the top node's depth is the sum of its two, and either over 32
+ * meets 19 too". Both of a slot that isn't wholly lent read as 0. */
+static int top_fits(const State *s, const Lent *m)
+{
+    uint8_t d[2] = { 0, 0 };
+    uint64_t at = 2 * ((uint64_t)s->waiting - 1);
+    for (int i = 0; i < 2; i++)
+        if (at + 2 <= m->depths.length) d[i] = m->depths.at[at + (uint64_t)i];
+    if (d[0] > MAX_DEPTH || d[1] > MAX_DEPTH) return 0;
+    return s->waiting <= (uint64_t)s->pairs + d[0] + d[1];
+}
+
 /* "a state that is no search's: the count waiting is over P + the top node's
- * depth (if one waits), that depth is over 64, pairs + splits != settled +
- * given + waiting, splits + unspent != S x P, or visits is over splits +
- * settled + given + 1". 02, M-103: "A state whose three don't sum so meets 19".
- * The slices fit; a slot that isn't lent has no node, and the count waiting is
- * then over P + 64. */
+ * depth (if one waits), .. pairs + splits != settled + given + waiting, splits +
+ * unspent != S x P, or visits is over splits + settled + given + 1". 02, M-103:
+ * "A state whose three don't sum so meets 19". The slices fit. */
 static int is_search(const State *s, const Lent *m)
 {
     uint64_t pairs = s->pairs, splits = s->splits, settled = s->settled;
     uint64_t given = s->given, waiting = s->waiting;
-    if (waiting > 0) {
-        if (waiting > pairs + 64) return 0;
-        uint8_t depth = m->depths.at[waiting - 1];
-        if (waiting > pairs + depth || depth > 64) return 0;
-    }
+    if (waiting > 0 && !top_fits(s, m)) return 0;
     if (pairs + splits != settled + given + waiting) return 0;
     if (splits + s->unspent != (uint64_t)s->quota * pairs) return 0;
     if ((uint64_t)s->by[BY_BOX] + s->by[BY_PLANE] + s->by[BY_LINE] != settled) return 0;
@@ -201,13 +207,25 @@ static void halve_node(const State *s, const Lent *m, uint32_t k, int i)
     double *range = m->ranges.at + 4 * (size_t)k;
     double mid = middle(range[2 * i], range[2 * i + 1]);
     double net[4 * MAX_WIDTH];
+    uint8_t *depths = m->depths.at + 2 * (size_t)k;
     memcpy(net, slot(s, m, i, k), w * sizeof *net);
     halve_net(net, s->width[i], slot(s, m, i, k) + w, slot(s, m, i, k));
     memcpy(slot(s, m, 1 - i, k) + o, slot(s, m, 1 - i, k), o * sizeof *net);
     memcpy(range + 4, range, 4 * sizeof *range);
     range[2 * i] = mid;
     range[4 + 2 * i + 1] = mid;
-    m->depths.at[k + 1] = ++m->depths.at[k];
+    memcpy(depths + 2, depths, 2 * sizeof *depths);
+    depths[i]++;
+    depths[2 + i]++;
+}
+
+/* The line that a Split of node k halves, 0 or 1, or NEITHER. */
+static int split_line(const State *s, const Lent *m, uint32_t k)
+{
+    Hull h[2];
+    uint32_t depths[2] = { m->depths.at[2 * (size_t)k], m->depths.at[2 * (size_t)k + 1] };
+    node_hulls(s, m, k, h);
+    return line_to_halve(h, depths);
 }
 
 /* A step with a verdict for the top node: 20, 19, or 0 and the next state. */
@@ -215,21 +233,22 @@ static int step(State *s, Verdict v, const Lent *m)
 {
     Hull h[2];
     uint32_t top = s->waiting - 1;
+    int line = NEITHER;
     if (has_ended(s)) return 20;
     if (!slices_fit(s, m) || !is_search(s, m)) return 19;
+    if (v == SPLIT) line = split_line(s, m, top);
     if (is_settled(v)) {
         s->settled++;
         s->by[v]++;
         s->waiting--;
-    } else if (v == UNSEPARATED || m->depths.at[top] == 64) {
+    } else if (line == NEITHER) {
         node_hulls(s, m, top, h);
         store_region(m, top, h, s->given++);
         s->waiting--;
     } else if (s->unspent == 0) {
         s->stopped = 1;
     } else {
-        node_hulls(s, m, top, h);
-        halve_node(s, m, top, box_size(h[1].box) >= box_size(h[0].box));
+        halve_node(s, m, top, line);
         s->unspent--;
         s->splits++;
         s->waiting++;
@@ -375,8 +394,8 @@ static int acts(const Given given[2], const double range[2][2], double gap,
                 size_t w = 4 * (size_t)first.width[x];
                 memcpy(slot(&first, m, x, k), m->pieces[x].at + at[x] * w, w * sizeof(double));
                 memcpy(m->ranges.at + 4 * (size_t)k + 2 * x, breaks.breaks[x] + at[x], 2 * sizeof(double));
+                m->depths.at[2 * (size_t)k + (size_t)x] = 0;
             }
-            m->depths.at[k] = 0;
             first.waiting++;
         }
     write_words(&first, w);

@@ -1,6 +1,6 @@
 /*
- * The sheet program of document 01 with document 02's M-100, M-101, M-103,
- * M-104 and M-105: two B-splines, open or closed, of one datum, a stretch of
+ * The sheet program of document 01 with document 02's M-100, M-101 and M-103
+ * to M-106: two B-splines, open or closed, of one datum, a stretch of
  * each and a gap; the answer is a verdict with counts, of the settled nodes by
  * the test that cleared them too, and the regions that could not be cleared,
  * each with its stretch mark, or a refusal with its number. Of a chart, a track
@@ -15,7 +15,8 @@
  *   clearance --level L ...      at a level of document 02: below 105 there is
  *                                no chart, below 104 a sheet's lines have no
  *                                datum, and the answer is below 103 without
- *                                box=, plane= and line=, below 101 without marks
+ *                                box=, plane= and line=, below 101 without marks;
+ *                                depths are M-106's at each level
  *
  * Build: cc -O2 -std=c99 -ffp-contract=off -o clearance clearance.c -lm
  *
@@ -48,7 +49,7 @@ enum {
     MAX_PIECES = MAX_LIST,        /* the first knot is never strictly between */
     MAX_BREAKS = MAX_PIECES + 1,
     MAX_SPLITS = 256,
-    MAX_DEPTH = 64,
+    MAX_DEPTH = 32, /* 02, M-106: of each line */
     MAX_DATUM = 9999, /* 02, M-104 */
     MAX_CHART = 64    /* 02, M-105: lines after the track */
 };
@@ -65,7 +66,7 @@ enum {
     LENT_PIECES = 8112,
     LENT_NETS = 7904,
     LENT_RANGES = 304,
-    LENT_DEPTHS = 76,
+    LENT_DEPTHS = 152, /* 02, M-106: "two a node, 152 from the sheet program" */
     LENT_REGIONS = 8190,
     LENT_MARKS = LENT_REGIONS / 10 /* 02, M-101: "the sheet program lends 819" */
 };
@@ -119,7 +120,7 @@ static int within(double lo, double x, double hi)
 /* ---- Sheet walk: numbers 1, 2 and 3 (01, table and Sheet program) ------ */
 
 /* The level of document 02 whose sheets are read and answers printed. */
-static int level = 105;
+static int level = 106;
 
 enum { KIND_LINE = 1, KIND_KNOTS, KIND_MULTS, KIND_POLES, KIND_WEIGHTS,
        KIND_QUESTION, KIND_END, KIND_CLOSED, KIND_DATUM, KIND_RANGE = 11 };
@@ -818,7 +819,7 @@ typedef struct {
     double pieces[2][LENT_PIECES];
     double nets[2][LENT_NETS];  /* node k owns slot k on both lines */
     double ranges[LENT_RANGES]; /* 4 a node: first lo, hi, second lo, hi */
-    uint32_t depths[LENT_DEPTHS];
+    uint32_t depths[LENT_DEPTHS]; /* 2 a node: the first line's, the second's */
     Region raw[LENT_REGIONS / 10];
     Region report[LENT_REGIONS / 10];
     uint32_t marks[LENT_MARKS];
@@ -856,7 +857,7 @@ static int memory_fits(const Search *s, uint64_t pairs, uint32_t splits)
     uint64_t nodes = pairs + 64;
     for (int k = 0; k < 2; k++)
         if (nodes * 4 * s->width[k] > LENT_NETS) return 0;
-    return 4 * nodes <= LENT_RANGES && nodes <= LENT_DEPTHS
+    return 4 * nodes <= LENT_RANGES && 2 * nodes <= LENT_DEPTHS
         && 10 * pairs * (splits + 1) <= LENT_REGIONS;
 }
 
@@ -870,8 +871,8 @@ static void push_pair(Search *s, uint32_t i, uint32_t j)
                4 * s->width[k] * sizeof(double));
         s->ranges[4 * node + 2 * k] = s->breaks[k][at[k]];
         s->ranges[4 * node + 2 * k + 1] = s->breaks[k][at[k] + 1];
+        s->depths[2 * node + k] = 0;
     }
-    s->depths[node] = 0;
 }
 
 /* Counts the pairs whose boxes aren't apart by the gap, first line's pieces
@@ -967,27 +968,43 @@ static void split_node(Search *s, int k)
     memcpy(s->ranges + 4 * next, s->ranges + 4 * top, 4 * sizeof(double));
     s->ranges[4 * top + 2 * k] = mid;
     s->ranges[4 * next + 2 * k + 1] = mid;
-    s->depths[next] = ++s->depths[top];
+    memcpy(s->depths + 2 * next, s->depths + 2 * top, 2 * sizeof *s->depths);
+    s->depths[2 * top + k]++;
+    s->depths[2 * next + k]++;
     s->waiting++;
+}
+
+/* The line of a node to halve, 0 or 1, or NEITHER. 01: the one with the larger
+ * box, of equal ones the second. 02, M-106: "If the line chosen by box size is
+ * at 32, the other is halved; with both at 32 the node is given up". */
+enum { NEITHER = -1 };
+
+static int line_to_halve(const Hull hull[2], const uint32_t depths[2])
+{
+    int k = box_size(hull[1].box) >= box_size(hull[0].box);
+    if (depths[k] < MAX_DEPTH) return k;
+    return depths[1 - k] < MAX_DEPTH ? 1 - k : NEITHER;
 }
 
 /* One step for the top node, with the search's own verdict. */
 static void step(Search *s)
 {
     uint64_t top = s->waiting - 1;
+    int line = NEITHER;
     Hull hull[2];
     Verdict v;
     load_hulls(s, top, hull);
     v = own_verdict(&hull[0], &hull[1], s->gap);
     s->visits++;
-    if (v == SPLIT && s->depths[top] < MAX_DEPTH) {
+    if (v == SPLIT) line = line_to_halve(hull, s->depths + 2 * top);
+    if (line != NEITHER) {
         if (s->unspent == 0) {
             s->ended = 1;
             return;
         }
         s->unspent--;
         s->splits++;
-        split_node(s, box_size(hull[1].box) >= box_size(hull[0].box));
+        split_node(s, line);
         return;
     }
     if (is_settled(v)) {

@@ -22,6 +22,19 @@ sys.path.insert(0, os.path.dirname(HERE))
 import sheet_text  # noqa: E402
 import sheets  # noqa: E402
 
+# Texts that several edits change: the line to halve, and a node's depths.
+CHOSEN = 'int k = box_size(hull[1].box) >= box_size(hull[0].box);'
+WAY = 'return depths[1 - k] < MAX_DEPTH ? 1 - k : NEITHER;'
+LIMITS = '    if (depths[k] < MAX_DEPTH) return k;\n    ' + WAY + '\n'
+DEEPER = '    s->depths[2 * top + k]++;\n    s->depths[2 * next + k]++;\n'
+
+
+def limits(first, second):
+    """The line to halve, with a limit for each line."""
+    return ('    const uint32_t most[2] = { %d, %d };\n    if (depths[k] < most[k]) return k;\n' % (first, second)
+            + '    return depths[1 - k] < most[1 - k] ? 1 - k : NEITHER;\n')
+
+
 EDITS = [
     # sheet walk
     ('1 over 16,384', 'length > MAX_BYTES) return 1', 'length >= MAX_BYTES) return 1'),
@@ -196,7 +209,9 @@ EDITS = [
     # search
     ('pairs second line first', 'if (push) push_pair(s, i, j);', 'if (push) push_pair(s, s->piece_count[0] - 1 - i, j);'),
     ('all pairs pushed', 'if (boxes_apart(boxes[0][i], boxes[1][j], s->gap)) continue;', ''),
-    ('13 pairs', 'LENT_RANGES = 304,\n    LENT_DEPTHS = 76', 'LENT_RANGES = 308,\n    LENT_DEPTHS = 77'),
+    ('13 pairs', 'LENT_RANGES = 304,\n    LENT_DEPTHS = 152', 'LENT_RANGES = 308,\n    LENT_DEPTHS = 154'),
+    ('76 depths', 'LENT_DEPTHS = 152', 'LENT_DEPTHS = 76'),
+    ('151 depths', 'LENT_DEPTHS = 152', 'LENT_DEPTHS = 151'),
     ('820 regions', 'LENT_REGIONS = 8190', 'LENT_REGIONS = 8200'),
     ('818 regions', 'LENT_REGIONS = 8190', 'LENT_REGIONS = 8180'),
     ('pieces 8,000', 'LENT_PIECES = 8112', 'LENT_PIECES = 8000'),
@@ -206,18 +221,54 @@ EDITS = [
     ('78 pieces', 'if (4 * s->width[k] * s->piece_count[k] > LENT_PIECES) return 19;', 'if (s->piece_count[k] > 78) return 19;'),
     ('19 of the first pieces only', 'for (int k = 0; k < 2; k++)\n        if (4 * s->width', 'for (int k = 0; k < 1; k++)\n        if (4 * s->width'),
     ('regions S x P', '10 * pairs * (splits + 1) <= LENT_REGIONS', '10 * pairs * splits <= LENT_REGIONS'),
-    ('depth 63', 'MAX_DEPTH = 64', 'MAX_DEPTH = 63'),
     ('allowance S', 's->unspent = sheet->splits_per_pair * s->pairs;', 's->unspent = sheet->splits_per_pair;'),
     ('node at allowance 0 dropped', 's->ended = 1;\n            return;', 's->ended = 1;\n            s->waiting--;\n            return;'),
     ('visit at allowance 0 not counted', 's->ended = 1;\n            return;', 's->ended = 1;\n            s->visits--;\n            return;'),
     ('end as soon as the allowance is 0', 's->unspent--;\n', 's->unspent--;\n        if (s->unspent == 0) s->ended = 1;\n'),
-    ('allowance spent at depth 64', 'if (v == SPLIT && s->depths[top] < MAX_DEPTH) {', 'if (v == SPLIT && s->depths[top] >= MAX_DEPTH && s->unspent > 0) s->unspent--;\n    if (v == SPLIT && s->depths[top] < MAX_DEPTH) {'),
-    ('end at depth 64 and allowance 0', 'if (v == SPLIT && s->depths[top] < MAX_DEPTH) {', 'if (v == SPLIT && (s->depths[top] < MAX_DEPTH || s->unspent == 0)) {'),
     ('equal boxes: the first', 'box_size(hull[1].box) >= box_size(hull[0].box)', 'box_size(hull[1].box) > box_size(hull[0].box)'),
     ('the smaller box', 'box_size(hull[1].box) >= box_size(hull[0].box)', 'box_size(hull[1].box) <= box_size(hull[0].box)'),
     ('lower half first', 'net_of(s, k, next),\n              net_of(s, k, top));', 'net_of(s, k, top),\n              net_of(s, k, next));'),
     ('ranges changed over', 's->ranges[4 * top + 2 * k] = mid;\n    s->ranges[4 * next + 2 * k + 1] = mid;', 's->ranges[4 * next + 2 * k] = mid;\n    s->ranges[4 * top + 2 * k + 1] = mid;'),
-    ('depth of the lower half only', 's->depths[next] = ++s->depths[top];', 's->depths[next] = s->depths[top] + 1;'),
+    # two depths (document 02, M-106)
+    ('limit 31', 'MAX_DEPTH = 32', 'MAX_DEPTH = 31'),
+    ('limit 33', 'MAX_DEPTH = 32', 'MAX_DEPTH = 33'),
+    ('limit 31 on the first line', LIMITS, limits(31, 32)),
+    ('limit 31 on the second line', LIMITS, limits(32, 31)),
+    ('limit 33 on the first line', LIMITS, limits(33, 32)),
+    ('limit 33 on the second line', LIMITS, limits(32, 33)),
+    ('one depth of 64 for both', LIMITS, '    return depths[0] + depths[1] < 64 ? k : NEITHER;\n'),
+    ('sum of 64 beside the limits', '    if (depths[k] < MAX_DEPTH) return k;\n', '    if (depths[0] + depths[1] >= 63) return NEITHER;\n    if (depths[k] < MAX_DEPTH) return k;\n'),
+    ('no giving way: given up', WAY, 'return NEITHER;'),
+    ('no giving way: halved past 32', WAY, 'return depths[1 - k] < MAX_DEPTH ? k : NEITHER;'),
+    ('given up once either is at 32', 'if (depths[k] < MAX_DEPTH) return k;', 'if (depths[0] == MAX_DEPTH || depths[1] == MAX_DEPTH) return NEITHER;\n    if (depths[k] < MAX_DEPTH) return k;'),
+    ('given up once the first is at 32', 'if (depths[k] < MAX_DEPTH) return k;', 'if (depths[0] == MAX_DEPTH) return NEITHER;\n    if (depths[k] < MAX_DEPTH) return k;'),
+    ('given up once the second is at 32', 'if (depths[k] < MAX_DEPTH) return k;', 'if (depths[1] == MAX_DEPTH) return NEITHER;\n    if (depths[k] < MAX_DEPTH) return k;'),
+    ('the second gives way alone', WAY, 'return k == 1 && depths[0] < MAX_DEPTH ? 0 : NEITHER;'),
+    ('the first gives way alone', WAY, 'return k == 0 && depths[1] < MAX_DEPTH ? 1 : NEITHER;'),
+    ('giving way by the boxes again', WAY, 'return box_size(hull[0].box) != box_size(hull[1].box) && depths[1 - k] < MAX_DEPTH ? 1 - k : NEITHER;'),
+    ('giving way to a box with a size', WAY, 'return box_size(hull[1 - k].box) > 0.0 && depths[1 - k] < MAX_DEPTH ? 1 - k : NEITHER;'),
+    ('the line of less depth', CHOSEN, 'int k = depths[1] <= depths[0];'),
+    ('equal boxes: the line of less depth', CHOSEN, CHOSEN + '\n    if (box_size(hull[1].box) == box_size(hull[0].box)) k = depths[1] <= depths[0];'),
+    ('allowance spent with both at 32', 'if (line != NEITHER) {', 'if (v == SPLIT && line == NEITHER && s->unspent > 0) s->unspent--;\n    if (line != NEITHER) {'),
+    ('split counted with both at 32', 'if (line != NEITHER) {', 'if (v == SPLIT && line == NEITHER) s->splits++;\n    if (line != NEITHER) {'),
+    ('kept at allowance 0 with both at 32', 'if (line != NEITHER) {', 'if (line != NEITHER || (v == SPLIT && s->unspent == 0)) {'),
+    ('given up at allowance 0 with a line at 32', 'if (line != NEITHER) {',
+     'if (s->unspent == 0 && (s->depths[2 * top] == MAX_DEPTH || s->depths[2 * top + 1] == MAX_DEPTH)) line = NEITHER;\n    if (line != NEITHER) {'),
+    ('nothing spent by giving way', 's->unspent--;\n', 's->unspent -= line == (box_size(hull[1].box) >= box_size(hull[0].box));\n'),
+    ('two spent by giving way', 's->unspent--;\n', 's->unspent -= 1 + (s->unspent > 1 && line != (box_size(hull[1].box) >= box_size(hull[0].box)));\n'),
+    ('settled with both at 32', 'if (line != NEITHER) {', 'if (v == SPLIT && line == NEITHER) v = BY_BOX;\n    if (line != NEITHER) {'),
+    ('visit with both at 32 not counted', 'if (line != NEITHER) {', 'if (v == SPLIT && line == NEITHER) s->visits--;\n    if (line != NEITHER) {'),
+    ('depth of the other line', DEEPER, '    s->depths[2 * top + other]++;\n    s->depths[2 * next + other]++;\n'),
+    ('depth of both lines', DEEPER, '    for (int i = 0; i < 2; i++) {\n        s->depths[2 * top + i]++;\n        s->depths[2 * next + i]++;\n    }\n'),
+    ('depth of the first line always', DEEPER, '    s->depths[2 * top]++;\n    s->depths[2 * next]++;\n'),
+    ('depth of the lower half only', DEEPER, '    s->depths[2 * next + k]++;\n'),
+    ('depth of the upper half only', DEEPER, '    s->depths[2 * top + k]++;\n'),
+    ("the halves' depths of different lines", DEEPER, '    s->depths[2 * top + k]++;\n    s->depths[2 * next + other]++;\n'),
+    ("the lower half's other depth 0", DEEPER, DEEPER + '    s->depths[2 * next + other] = 0;\n'),
+    ("the lower half's depths changed over", DEEPER, DEEPER + '    { uint32_t d = s->depths[2 * next]; s->depths[2 * next] = s->depths[2 * next + 1]; s->depths[2 * next + 1] = d; }\n'),
+    ('a depth of the node halved, none of the other line', DEEPER, DEEPER + '    s->depths[2 * top + other] = s->depths[2 * next + other] = 0;\n'),
+    ('a slot of one depth', 'line_to_halve(hull, s->depths + 2 * top)', 'line_to_halve(hull, s->depths + top)'),
+    ('depths of a pushed pair', '        s->depths[2 * node + k] = 0;\n', ''),
     # merging
     ('from the start', 'Region r = raw[--count];', 'Region r = *raw++;\n        count--;'),
     ('one pass', '} while (n < before);', '} while (0 && n < before);'),
@@ -356,8 +407,8 @@ EDITS = [
     ('plane uncounted', 's->by[v]++;', 's->by[v] += v != BY_PLANE;'),
     ('line uncounted', 's->by[v]++;', 's->by[v] += v != BY_LINE;'),
     ('line counted as plane', 's->by[v]++;', 's->by[v == BY_LINE ? BY_PLANE : v]++;'),
-    ('every half counted as box', 's->by[v]++;', 's->by[s->depths[top] > 0 ? BY_BOX : v]++;'),
-    ('box of a node never halved only', 's->by[v]++;', 's->by[v == BY_BOX && s->depths[top] > 0 ? BY_PLANE : v]++;'),
+    ('every half counted as box', 's->by[v]++;', 's->by[s->depths[2 * top] + s->depths[2 * top + 1] > 0 ? BY_BOX : v]++;'),
+    ('box of a node never halved only', 's->by[v]++;', 's->by[v == BY_BOX && s->depths[2 * top] + s->depths[2 * top + 1] > 0 ? BY_PLANE : v]++;'),
     ('given counted as line', '        s->raw[s->given++] = region_of(s, top, hull);\n    }', '        s->raw[s->given++] = region_of(s, top, hull);\n        s->by[BY_LINE]++;\n    }'),
     ('pairs set apart counted as box', 'if (boxes_apart(boxes[0][i], boxes[1][j], s->gap)) continue;', 'if (boxes_apart(boxes[0][i], boxes[1][j], s->gap)) {\n                s->by[BY_BOX]++;\n                continue;\n            }'),
     ('pairs set apart settled by box', 'if (boxes_apart(boxes[0][i], boxes[1][j], s->gap)) continue;', 'if (boxes_apart(boxes[0][i], boxes[1][j], s->gap)) {\n                s->by[BY_BOX]++;\n                s->settled++;\n                continue;\n            }'),
@@ -535,7 +586,7 @@ ALIKE = [
     # the three sum to settled
     ('line as what remains', 's->by[v]++;', 's->by[BY_LINE] = s->settled - (s->by[BY_BOX] += v == BY_BOX) - (s->by[BY_PLANE] += v == BY_PLANE);'),
     # the boxes of a pushed pair aren't apart, and its nets stay until it is halved
-    ('box only of halves', 's->by[v]++;', 's->by[v == BY_BOX && s->depths[top] == 0 ? BY_PLANE : v]++;'),
+    ('box only of halves', 's->by[v]++;', 's->by[v == BY_BOX && s->depths[2 * top] + s->depths[2 * top + 1] == 0 ? BY_PLANE : v]++;'),
     # equal data are within the span together
     ('span of the first datum alone', 'return datum_in_span(first) && datum_in_span(second) && first == second;', 'return datum_in_span(first) && first == second;'),
     # every line before has the track's datum
@@ -586,8 +637,8 @@ def stored(folders):
 
 
 def generated(seed, count):
-    listed = [d for _, d in sheets.drawn_up_to(105)]
-    listed += [d for _, d in sheets.random_sheets(seed, count, 105)]
+    listed = [d for _, d in sheets.drawn_up_to(106)]
+    listed += [d for _, d in sheets.random_sheets(seed, count, 106)]
     return b''.join(sheets.packed(d) for d in listed)
 
 

@@ -3,4 +3,4 @@ use mathlib.Core.Path.{refl}
 use Rattle.cases.specs.Forged.{Forgeries}
 
 pub forgeries-answered : Forgeries
-forgeries-answered = (refl, (refl, (refl, (refl, (refl, (refl, (refl, (refl, (refl, (refl, (refl, (refl, (refl, (refl, (refl, (refl, (refl, (refl, tt))))))))))))))))))
+forgeries-answered = (refl, (refl, (refl, (refl, (refl, (refl, (refl, (refl, (refl, (refl, (refl, (refl, (refl, (refl, (refl, (refl, (refl, (refl, (refl, (refl, (refl, tt)))))))))))))))))))))

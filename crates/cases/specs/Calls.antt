@@ -23,13 +23,13 @@ use Rattle.cases.specs.Cases.{two64, three64, lineA, straight, question,
 
 -- all of a memory for one pair at S 1; a raw slice too short by one, and depths
 abbrev pub whole : Sizes
-whole = record { nets1 = 520; nets2 = 520; ranges = 260; depths = 65; raw = 20 }
+whole = record { nets1 = 520; nets2 = 520; ranges = 260; depths = 130; raw = 20 }
 
 abbrev pub shortRaw : Sizes
-shortRaw = record { nets1 = 520; nets2 = 520; ranges = 260; depths = 65; raw = 19 }
+shortRaw = record { nets1 = 520; nets2 = 520; ranges = 260; depths = 130; raw = 19 }
 
 abbrev pub shortDepths : Sizes
-shortDepths = record { nets1 = 520; nets2 = 520; ranges = 260; depths = 64; raw = 20 }
+shortDepths = record { nets1 = 520; nets2 = 520; ranges = 260; depths = 129; raw = 20 }
 
 -- an answer in numbers: a refusal's; of a step visits, splits, settled, of these by box, plane and line, given, waiting and the allowance unspent; the verdict's; of a report the word's, the counts and how many regions
 abbrev pub said : Answer → List ℕ

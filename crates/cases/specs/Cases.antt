@@ -66,7 +66,7 @@ question a b gap splits = record { line1 = a; lo1 = zero64; hi1 = one64; line2 =
 
 -- memory for one pair
 abbrev pub room : ℕ → Memory
-room splits = memory (replicate 520 zero64) (replicate 520 zero64) (replicate 260 zero64) (replicate 65 0) (replicate (suc splits * 10) zero64)
+room splits = memory (replicate 520 zero64) (replicate 520 zero64) (replicate 260 zero64) (replicate 130 0) (replicate (suc splits * 10) zero64)
 
 -- an answer in numbers: the word's; pairs, visits, splits, settled, of these by box, plane and line, given, left and the allowance unspent; the regions' floats and marks; the range ends of the nodes left. Or a refusal's number.
 pub record Answer : Type 0 where
@@ -348,7 +348,7 @@ closed =
 -- at S 0, in memory for two pairs, with a report slice for two regions
 abbrev pub searchOfTwo : Question → Answer
 searchOfTwo q =
-    let u = memory (replicate 528 zero64) (replicate 528 zero64) (replicate 264 zero64) (replicate 66 0) (replicate 20 zero64) in
+    let u = memory (replicate 528 zero64) (replicate 528 zero64) (replicate 264 zero64) (replicate 132 0) (replicate 20 zero64) in
     let o = openDef q (replicate 32 zero64) (replicate 8 zero64) u in
     ranFrom 1 (o .answer) (o .memory)
 
@@ -441,7 +441,7 @@ SeamInside =
     let minus = ofBits binary64 0xbff0_0000_0000_0000 in
     let four = ofBits binary64 0x4010_0000_0000_0000 in
     let end = ofBits binary64 0x4012_0000_0000_0000 in
-    let u = memory (replicate 528 zero64) (replicate 528 zero64) (replicate 264 zero64) (replicate 66 0) (replicate 20 zero64) in
+    let u = memory (replicate 528 zero64) (replicate 528 zero64) (replicate 264 zero64) (replicate 132 0) (replicate 20 zero64) in
     let q : Question = record { line1 = straight four minus four one64; lo1 = zero64; hi1 = one64; line2 = square; lo2 = half64; hi2 = end; gap = zero64; splits = 0 } in
     let o = openDef q (replicate 8 zero64) (replicate 40 zero64) u in
     ranFrom 1 (o .answer) (o .memory)

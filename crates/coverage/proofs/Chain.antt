@@ -12,7 +12,7 @@ use lib.Ieee.{Float}
 use Rattle.lists.specs.Parts.{block, patch}
 use Rattle.lists.proofs.Parts.{patch-length}
 use Rattle.verdicts.specs.declared.Verdict.{Verdict}
-use Rattle.machine.specs.Machine.{Node, Settling, Search, limit, depth, ended, OwnVerdict, remember}
+use Rattle.machine.specs.Machine.{Node, Settling, Search, ended, OwnVerdict, remember}
 use Rattle.machine.specs.Merge.{merged}
 use Rattle.machine.proofs.Cover.{at-most}
 use Rattle.regions.specs.declared.Region.{Region}
@@ -22,7 +22,7 @@ use Rattle.states.specs.declared.State.{State}
 use Rattle.search.specs.declared.Own.{Own}
 use Rattle.search.specs.declared.Own.the-variants.{Is, Ended as OwnEnded, NoRoom as OwnNoRoom}
 use Rattle.nodes.specs.Geometry.{regionFor, regionOf}
-use Rattle.states.specs.States.{Memory, memory, Sizes, sizes, needed, enough, enoughOwn, isSearch}
+use Rattle.states.specs.States.{spare, Memory, memory, Sizes, sizes, needed, enough, enoughOwn, isSearch}
 use Rattle.search.specs.Steps.{stepDef, judgeAt, ownDef}
 use Rattle.report.specs.declared.Reported.the-variants.{Told, Running, NoRoom as ReportNoRoom}
 use Rattle.report.specs.Reports.{Output, outRoom, written, reporting, leftRegions, rawAfter, writeReport, reportDef}
@@ -51,12 +51,12 @@ abbrev pub OwnHeld : (q : Asked) → Memory → List (Node (shape q)) → Type 0
 OwnHeld q w [] = Unit {0}
 OwnHeld q w (n ∷ r) =
     (block (4 * q .width1) (length r) (w .nets1) ≡ netOf1 q n) × (block (4 * q .width2) (length r) (w .nets2) ≡ netOf2 q n)
-    × (block 1 (length r) (w .depths) ≡ depthOf q n)
+    × (block 2 (length r) (w .depths) ≡ depthOf q n)
 
 -- a start that is long enough holds the search
 pub held-lent : (q : Asked) (m : Search (shape q)) (n : Sizes) (u : Memory) → Numbers q m → Held q m u → Room q (sizes (lend n u)) → Held q m (lend n u)
 held-lent q m n u N H R = record {
-  nodes = agree-stored q (pairsOf q + limit) u (lend n u) (m .stack) (agree-lend q n u R) (at-most (shape q) (pairsOf q) (m .stack) (N .counts .steep)) (H .nodes);
+  nodes = agree-stored q (pairsOf q + spare) u (lend n u) (m .stack) (agree-lend q n u R) (at-most (shape q) (pairsOf q) (m .stack) (N .counts .steep)) (H .nodes);
   raw = take-take (length (m .given) * 10) (n .raw) (u .raw) (fits (length (take (n .raw) (u .raw))) (length-take (n .raw) (u .raw)) (R .raw)) ∙ H .raw;
 }
   where
@@ -66,7 +66,7 @@ held-lent q m n u N H R = record {
 held-back : (q : Asked) (m : Search (shape q)) (n : Sizes) (w u : Memory) → Numbers q m → Held q m w → Room q (sizes w) → Held q m (giveBack n w u)
 held-back q m n w u N H R = record {
   nodes =
-      agree-stored q (pairsOf q + limit) w (giveBack n w u) (m .stack) (agree-back q n w u R)
+      agree-stored q (pairsOf q + spare) w (giveBack n w u) (m .stack) (agree-back q n w u R)
       (at-most (shape q) (pairsOf q) (m .stack) (N .counts .steep)) (H .nodes);
   raw =
       take-append-le (length (m .given) * 10) (w .raw) (drop (n .raw) (u .raw))
@@ -124,12 +124,12 @@ module _ (q : Asked) (low : (w : ℕ) (l : List Float) → length l ≡ 4 * w �
       go true false f g = absurd (g (f tt))
       go true true f g = let z = H (f tt) in λ i. Is (q .geometry .clearing (q .gap) (z .0 i) (z .1 i))
 
-  own-lent : (l : List (Node (shape q))) (n : Sizes) (u : Memory) → length l ≤ pairsOf q + limit → AllStored q u l → RoomOwn q (sizes (lend n u)) → OwnHeld q (lend n u) l
+  own-lent : (l : List (Node (shape q))) (n : Sizes) (u : Memory) → length l ≤ pairsOf q + spare → AllStored q u l → RoomOwn q (sizes (lend n u)) → OwnHeld q (lend n u) l
   own-lent [] n u h z R = tt
   own-lent (x ∷ r) n u h z R = (
     start-block q (n .nets1) (u .nets1) (4 * q .width1) (length r) h (R .nets1) ∙ z .0 .net1,
     start-block q (n .nets2) (u .nets2) (4 * q .width2) (length r) h (R .nets2) ∙ z .0 .net2,
-    start-block q (n .depths) (u .depths) 1 (length r) h (R .depths) ∙ z .0 .depth,
+    start-block q (n .depths) (u .depths) 2 (length r) h (R .depths) ∙ z .0 .depth,
   )
 
   pub own-is : (m : Search (shape q)) (u : Memory) (n : Sizes) → Inv q full m u → ownDef (q .geometry) (stateOf q m) (lend n u) ≡ ownRule q full n m
@@ -289,8 +289,12 @@ module _ (q : Asked) (low : (w : ℕ) (l : List Float) → length l ≡ 4 * w �
   pub remember-inv : (v : Verdict) (m : Search (shape q)) (u : Memory) → Inv q full m u → Inv q full (remember (shape q) v m) u
   remember-inv v m u I = record {
     numbers =
-        record
-        { counts = record { balance = I .numbers .counts .balance; steep = I .numbers .counts .steep }; allowance = I .numbers .allowance; visited = I .numbers .visited };
+        let c = I .numbers .counts in
+        record {
+          counts = record { balance = c .balance; steep = c .steep; given = c .given; settled = c .settled };
+          allowance = I .numbers .allowance;
+          visited = I .numbers .visited;
+        };
     held = record { nodes = I .held .nodes; raw = I .held .raw };
     lengths = I .lengths;
   }

@@ -12,7 +12,10 @@ use lib.Ieee.{Float}
 use Rattle.lists.specs.Members.{Any, All}
 use Rattle.verdicts.specs.declared.Verdict.{Verdict}
 use Rattle.verdicts.specs.declared.Verdict.the-variants.{Settled, Split, Unseparated}
-use Rattle.machine.specs.Machine.{Node, Settling, Search, limit, depth, InNode, ended, divide, advance, OwnVerdict, notSettled, settledBy, rememberedAs}
+use Rattle.verdicts.specs.declared.Choice.{Choice}
+use Rattle.verdicts.specs.declared.Choice.the-variants.{First, Second, Neither}
+use Rattle.machine.specs.Machine.{Node, Settling, Search, choiceOf, InNode, ended, splitAlong, divide, advance, OwnVerdict, notSettled, settledBy, rememberedAs}
+use Rattle.machine.proofs.Cover.{divide-settled}
 use Rattle.machine.specs.Merge.{merged}
 use Rattle.machine.specs.Covered.{SetApart, Covered, byBoxes, bySettled, byGiven, byWaiting}
 use Rattle.regions.specs.declared.Word.{Word}
@@ -96,12 +99,7 @@ module _ (q : Asked) (low : (w : ℕ) (l : List Float) → length l ≡ 4 * w �
       → AllOwn q se → AllOwn q (advance (shape q) v (search q (n ∷ r) se gi vi sp un false (rememberedAs (shape q) v)) .settled)
   settled-own (Settled by) n r se gi vi sp un h = (refl, h)
   settled-own Unseparated n r se gi vi sp un h = h
-  settled-own Split n r se gi vi sp un h = go (leb limit (depth (shape q) n)) un
-    where
-      go : (b : Bool) (k : ℕ) → AllOwn q (divide (shape q) b k n r (search q (n ∷ r) se gi vi sp un false notSettled) .settled)
-      go true k = h
-      go false zero = h
-      go false (suc k) = h
+  settled-own Split n r se gi vi sp un h = subst (AllOwn q) (divide-settled (shape q) (choiceOf (shape q) n) un n r (search q (n ∷ r) se gi vi sp un false notSettled)) h
 
   lower-rest : (v : Verdict) (n : Node (shape q)) (r : List (Node (shape q))) (se : List (Settling (shape q))) (gi : List (Node (shape q))) (vi sp un k : ℕ) (ow : OwnVerdict)
       → rest q (search q (n ∷ r) se gi vi sp un false ow) < suc k
@@ -109,14 +107,20 @@ module _ (q : Asked) (low : (w : ℕ) (l : List Float) → length l ≡ 4 * w �
       (rest q (advance (shape q) v (search q (n ∷ r) se gi vi sp un false ow)) < k)
   lower-rest (Settled by) n r se gi vi sp un k ow h = inr (omega arith)
   lower-rest Unseparated n r se gi vi sp un k ow h = inr (omega arith)
-  lower-rest Split n r se gi vi sp un k ow h = go (leb limit (depth (shape q) n)) un h
+  lower-rest Split n r se gi vi sp un k ow h = go (choiceOf (shape q) n) un h
     where
-      go : (b : Bool) (j : ℕ) → 2 * j + suc (length r) < suc k
-          → T (ended (shape q) (divide (shape q) b j n r (search q (n ∷ r) se gi vi sp j false ow))) ⊎
-          (rest q (divide (shape q) b j n r (search q (n ∷ r) se gi vi sp j false ow)) < k)
-      go true j h = inr (omega arith)
-      go false zero h = inl tt
-      go false (suc j) h = inr (omega arith)
+      split : (b : Bool) (j : ℕ) → 2 * j + suc (length r) < suc k
+          → T (ended (shape q) (splitAlong (shape q) b j n r (search q (n ∷ r) se gi vi sp j false ow))) ⊎
+          (rest q (splitAlong (shape q) b j n r (search q (n ∷ r) se gi vi sp j false ow)) < k)
+      split b zero h = inl tt
+      split b (suc j) h = inr (omega arith)
+
+      go : (c : Choice) (j : ℕ) → 2 * j + suc (length r) < suc k
+          → T (ended (shape q) (divide (shape q) c j n r (search q (n ∷ r) se gi vi sp j false ow))) ⊎
+          (rest q (divide (shape q) c j n r (search q (n ∷ r) se gi vi sp j false ow)) < k)
+      go First j h = split false j h
+      go Second j h = split true j h
+      go Neither j h = inr (omega arith)
 
   -- one turn, lent the whole memory, as the rules answer it, and the turns after it
   one-turn : (k : ℕ) (n : Node (shape q)) (r : List (Node (shape q))) (se : List (Settling (shape q))) (gi : List (Node (shape q))) (vi sp un : ℕ) (ow : OwnVerdict)

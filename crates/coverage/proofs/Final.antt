@@ -15,10 +15,12 @@ use Rattle.lists.proofs.Members.{any-left, any-right, any-reverse, all-append, 
 use Rattle.verdicts.specs.declared.Verdict.{Verdict}
 use Rattle.verdicts.specs.declared.Test.{Test}
 use Rattle.verdicts.specs.declared.Verdict.the-variants.{Settled, Split, Unseparated}
-use Rattle.machine.specs.Machine.{Node, Settling, Search, limit, half, partOf, depth, InNode, ended, divide, onTop, advance, OwnVerdict, notSettled, settledBy, rememberedAs, remember}
+use Rattle.verdicts.specs.declared.Choice.{Choice}
+use Rattle.verdicts.specs.declared.Choice.the-variants.{First, Second, Neither}
+use Rattle.machine.specs.Machine.{Node, Settling, Search, half, partOf, depth1, depth2, Shallow, choiceOf, InNode, ended, splitAlong, divide, onTop, advance, OwnVerdict, notSettled, settledBy, rememberedAs, remember}
 use Rattle.machine.specs.Merge.{merged}
 use Rattle.machine.specs.Covered.{Covered, byBoxes, bySettled, byGiven, byWaiting}
-use Rattle.machine.proofs.Cover.{at-most, tags-sum, Halving, SoundNode, cover-advance, sound-advance, sound-fresh, cover-fresh, sound-descend}
+use Rattle.machine.proofs.Cover.{divide-settled, divide-own, deep-shallow, at-most, tags-sum, Halving, SoundNode, cover-advance, sound-advance, sound-fresh, cover-fresh, sound-descend}
 use Rattle.machine.proofs.Merged.{merged-off, Keeping, merged-has}
 use Rattle.floats.specs.Floats.{least, greatest, middle, zero64}
 use Rattle.floats.specs.Sizes.{Number, Within}
@@ -43,7 +45,7 @@ use Rattle.report.specs.declared.Reported.the-variants.{Told, Running, NoRoom a
 use Rattle.coverage.specs.Calls.{Call, step, own, report, Answer, stepped, judged, reported, runAll}
 use Rattle.opening.specs.Asked.{Asked, shape, pieces1, pieces2, In1, In2, pairsOf, start, stateOf, resultOf, netOf1, netOf2, openMemory, rawList, allowanceFor, recordsFor}
 use Rattle.coverage.specs.Rules.{Ruled, suffices, sufficesOwn, stepRule, testTop, ownRule, afterOwn, reportRule, callRule, ruleAll}
-use Rattle.coverage.specs.Claim.{bound, Accounted, GoodAnswer, After, Fine, GoodReport}
+use Rattle.coverage.specs.Claim.{bound, Accounted, GoodAnswer, DepthsFit, After, Fine, GoodReport}
 use Rattle.coverage.proofs.Refine.{flats-length, search}
 use Rattle.coverage.proofs.Chain.{chain}
 use Rattle.coverage.proofs.Opening.{all-pieces, open-inv}
@@ -121,12 +123,14 @@ pub record Ok (q : Asked) (m : Search (shape q)) : Type 0 where
   pub honest : (t : Test) → m .own ≡ settledBy t → Says q (Settled t) (m .stack)
 
 module _ (q : Asked) where
-  given-divide : (d : Bool) (k : ℕ) (n : Node (shape q)) (r : List (Node (shape q))) (m : Search (shape q)) → SoundNode (shape q) (halving q) n
+  given-divide : (d : Choice) (k : ℕ) (n : Node (shape q)) (r : List (Node (shape q))) (m : Search (shape q)) → SoundNode (shape q) (halving q) n
       → All (SoundNode (shape q) (halving q)) (m .given)
       → All (SoundNode (shape q) (halving q)) (divide (shape q) d k n r m .given)
-  given-divide true k n r m w g = all-append (SoundNode (shape q) (halving q)) (m .given) (n ∷ []) g (w, tt)
-  given-divide false zero n r m w g = g
-  given-divide false (suc k) n r m w g = g
+  given-divide Neither k n r m w g = all-append (SoundNode (shape q) (halving q)) (m .given) (n ∷ []) g (w, tt)
+  given-divide First zero n r m w g = g
+  given-divide First (suc k) n r m w g = g
+  given-divide Second zero n r m w g = g
+  given-divide Second (suc k) n r m w g = g
 
   given-top : (v : Verdict) (l : List (Node (shape q))) (m : Search (shape q)) → All (SoundNode (shape q) (halving q)) l
       → All (SoundNode (shape q) (halving q)) (m .given)
@@ -135,14 +139,8 @@ module _ (q : Asked) where
   given-top Split [] m w g = g
   given-top Unseparated [] m w g = g
   given-top (Settled by) (n ∷ r) m w g = g
-  given-top Split (n ∷ r) m w g = given-divide (leb limit (depth (shape q) n)) (m .unspent) n r m (w .0) g
+  given-top Split (n ∷ r) m w g = given-divide (choiceOf (shape q) n) (m .unspent) n r m (w .0) g
   given-top Unseparated (n ∷ r) m w g = all-append (SoundNode (shape q) (halving q)) (m .given) (n ∷ []) g (w .0, tt)
-
-  clear-divide : (d : Bool) (k : ℕ) (n : Node (shape q)) (r : List (Node (shape q))) (m : Search (shape q)) → All (Cleared q) (m .settled)
-      → All (Cleared q) (divide (shape q) d k n r m .settled)
-  clear-divide true k n r m c = c
-  clear-divide false zero n r m c = c
-  clear-divide false (suc k) n r m c = c
 
   clear-top : (v : Verdict) (l : List (Node (shape q))) (m : Search (shape q)) → ((t : Test) → m .own ≡ settledBy t → Says q (Settled t) l) → All (Cleared q) (m .settled)
       → All (Cleared q) (onTop (shape q) v l m .settled)
@@ -150,22 +148,17 @@ module _ (q : Asked) where
   clear-top Split [] m f c = c
   clear-top Unseparated [] m f c = c
   clear-top (Settled by) (n ∷ r) m f c = (f, c)
-  clear-top Split (n ∷ r) m f c = clear-divide (leb limit (depth (shape q) n)) (m .unspent) n r m c
+  clear-top Split (n ∷ r) m f c = subst (All (Cleared q)) (divide-settled (shape q) (choiceOf (shape q) n) (m .unspent) n r m) c
   clear-top Unseparated (n ∷ r) m f c = c
 
   -- a step forgets the own verdict
-  fresh-divide : (d : Bool) (k : ℕ) (n : Node (shape q)) (r : List (Node (shape q))) (m : Search (shape q)) → divide (shape q) d k n r m .own ≡ notSettled
-  fresh-divide true k n r m = refl
-  fresh-divide false zero n r m = refl
-  fresh-divide false (suc k) n r m = refl
-
   honest-top : (v : Verdict) (l : List (Node (shape q))) (m : Search (shape q)) → m .stack ≡ l → ((t : Test) → m .own ≡ settledBy t → Says q (Settled t) (m .stack))
       → (t : Test) → onTop (shape q) v l m .own ≡ settledBy t → Says q (Settled t) (onTop (shape q) v l m .stack)
   honest-top (Settled by) [] m e f t o = f t o
   honest-top Split [] m e f t o = f t o
   honest-top Unseparated [] m e f t o = f t o
   honest-top (Settled by) (n ∷ r) m e f t o = absurd (forgotten t o)
-  honest-top Split (n ∷ r) m e f t o = absurd (forgotten t (sym (fresh-divide (leb limit (depth (shape q) n)) (m .unspent) n r m) ∙ o))
+  honest-top Split (n ∷ r) m e f t o = absurd (forgotten t (sym (divide-own (shape q) (choiceOf (shape q) n) (m .unspent) n r m) ∙ o))
   honest-top Unseparated (n ∷ r) m e f t o = absurd (forgotten t o)
 
   pub ok-advance : (v : Verdict) (m : Search (shape q)) → Ok q m → Ok q (advance (shape q) v m)
@@ -412,6 +405,14 @@ ok-start q O = record {
   honest = λ t e. absurd (forgotten t e);
 }
 
+each-shallow : (q : Asked) (l : List (Node (shape q))) → All (Shallow (shape q)) l → All (DepthsFit q) l
+each-shallow q [] h = tt
+each-shallow q (n ∷ l) h = ((h .0 .first, h .0 .second), each-shallow q l (h .1))
+
+settled-shallow : (q : Asked) (l : List (Settling (shape q))) → All (λ (e : Settling (shape q)). Shallow (shape q) (e .node)) l → All (λ (e : Settling (shape q)). DepthsFit q (e .node)) l
+settled-shallow q [] h = tt
+settled-shallow q (e ∷ l) h = ((h .0 .first, h .0 .second), settled-shallow q l (h .1))
+
 pub fresh-claim : (q : Asked) (u : Memory) → Fine q → T (enough (needed (stateOf q (start q))) (sizes u)) → (cs : List Call) →
     (runAll (q .geometry) cs (stateOf q (start q)) (openMemory q u) .answers ≡ ruleAll q (sizes u) cs (start q) .answers)
     × After q (ruleAll q (sizes u) cs (start q) .search) (runAll (q .geometry) cs (stateOf q (start q)) (openMemory q u))
@@ -426,6 +427,9 @@ fresh-claim q u O room cs =
         covered = k .covered;
         balance = subst (λ (x : State). x .tally .pairs + x .tally .splits ≡ x .tally .settled + x .tally .given + x .tally .waiting) (sym (z .state)) (n .counts .balance);
         atMost = subst (λ (x : State). x .tally .waiting ≤ x .tally .pairs + 64) (sym (z .state)) (at-most (shape q) (pairsOf q) (m .stack) (n .counts .steep));
+        waitingDepths = each-shallow q (m .stack) (deep-shallow (shape q) (pairsOf q) (m .stack) (n .counts .steep));
+        givenDepths = each-shallow q (m .given) (n .counts .given);
+        settledDepths = settled-shallow q (m .settled) (n .counts .settled);
         tags = subst (λ (x : State). x .tally .settled ≡ x .tally .boxes + x .tally .planes + x .tally .lines) (sym (z .state)) (sym (tags-sum (shape q) (m .settled)));
         allowance = subst (λ (x : State). x .tally .splits + x .tally .unspent ≡ allowanceOf (x .tally)) (sym (z .state)) (n .allowance);
         visited = subst (λ (x : State). x .tally .visits ≡ x .tally .splits + x .tally .settled + x .tally .given + cond (x .tally .stopped) 1 0) (sym (z .state)) (n .visited);

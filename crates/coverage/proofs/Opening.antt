@@ -14,10 +14,10 @@ use Rattle.lists.specs.Members.{All}
 use Rattle.lists.proofs.Members.{all-append}
 use Rattle.lists.specs.Parts.{block, joined}
 use Rattle.lists.proofs.Parts.{patch-length}
-use Rattle.machine.specs.Machine.{Shape, Node, limit, depth, atPieces, row, pushed}
+use Rattle.machine.specs.Machine.{Shape, Node, atPieces, row, pushed}
 use Rattle.machine.proofs.Cover.{count-fresh}
 use Rattle.floats.specs.Sizes.{Within}
-use Rattle.states.specs.States.{Memory, sizes, needed, enough}
+use Rattle.states.specs.States.{spare, Memory, sizes, needed, enough}
 use Rattle.opening.specs.Asked.{Asked, shape, pieces1, pieces2, pushedPairs, pairsOf, start, stateOf, netOf1, netOf2, rangesOf, depthOf, openMemory, allowanceFor}
 use Rattle.coverage.specs.Claim.{bound, FineLine, Stored, AllStored, Fine}
 use Rattle.coverage.proofs.Refine.{room-of, fits-in}
@@ -73,7 +73,7 @@ module _ (q : Asked) (u : Memory) where
   Up j (n ∷ r) = Stored q u j n × Up (suc j) r
 
   up-of : (j : ℕ) (l : List (Node (shape q))) → Blk (4 * q .width1) (netOf1 q) j l (u .nets1) → Blk (4 * q .width2) (netOf2 q) j l (u .nets2)
-      → Blk 4 (rangesOf q) j l (u .ranges) → Blk 1 (depthOf q) j l (u .depths) → Up j l
+      → Blk 4 (rangesOf q) j l (u .ranges) → Blk 2 (depthOf q) j l (u .depths) → Up j l
   up-of j [] a b c d = tt
   up-of j (n ∷ r) a b c d = (record { net1 = a .0; net2 = b .0; ranges = c .0; depth = d .0 }, up-of (suc j) r (a .1) (b .1) (c .1) (d .1))
 
@@ -100,7 +100,7 @@ open-inv q u O room =
     (all-same (λ (p : Piece). Unit {0}) (λ (p : Piece). tt) (pieces1 q))
     (all-pieces (λ (p : Piece). length (p .net) ≡ 4 * q .width2) (q .width2) (q .lo2) (q .cuts2) (λ lo hi l x y e. e) (O .fine2)) in
     let lr : All (λ (n : Node (shape q)). length (rangesOf q n) ≡ 4) N = all-same (λ (n : Node (shape q)). length (rangesOf q n) ≡ 4) (λ n. refl) N in
-    let ld : All (λ (n : Node (shape q)). length (depthOf q n) ≡ 1) N = all-same (λ (n : Node (shape q)). length (depthOf q n) ≡ 1) (λ n. refl) N in
+    let ld : All (λ (n : Node (shape q)). length (depthOf q n) ≡ 2) N = all-same (λ (n : Node (shape q)). length (depthOf q n) ≡ 2) (λ n. refl) N in
     record {
       numbers = record { counts = count-fresh (shape q) (pieces1 q) (pieces2 q) (allowanceFor q); allowance = omega arith; visited = omega arith };
       held = record {
@@ -108,17 +108,17 @@ open-inv q u O room =
             (blk (4 * q .width1) (netOf1 q) 0 [] N (drop (0 + length (joined (map (netOf1 q) N))) (u .nets1)) (sym (native.Mathlib.Nat.zero-mul (4 * q .width1))) la)
             (blk (4 * q .width2) (netOf2 q) 0 [] N (drop (0 + length (joined (map (netOf2 q) N))) (u .nets2)) (sym (native.Mathlib.Nat.zero-mul (4 * q .width2))) lb)
             (blk 4 (rangesOf q) 0 [] N (drop (0 + length (joined (map (rangesOf q) N))) (u .ranges)) refl lr)
-            (blk 1 (depthOf q) 0 [] N (drop (0 + length (joined (map (depthOf q) N))) (u .depths)) refl ld)) tt;
+            (blk 2 (depthOf q) 0 [] N (drop (0 + length (joined (map (depthOf q) N))) (u .depths)) refl ld)) tt;
         raw = refl;
       };
       lengths = λ i. record {
         nets1 = patch-length (u .nets1) 0 (joined (map (netOf1 q) N)) (fits (4 * q .width1) (joined-length (4 * q .width1) (netOf1 q) N la) (R .nets1)) i;
         nets2 = patch-length (u .nets2) 0 (joined (map (netOf2 q) N)) (fits (4 * q .width2) (joined-length (4 * q .width2) (netOf2 q) N lb) (R .nets2)) i;
         ranges = patch-length (u .ranges) 0 (joined (map (rangesOf q) N)) (fits 4 (joined-length 4 (rangesOf q) N lr) (R .ranges)) i;
-        depths = patch-length (u .depths) 0 (joined (map (depthOf q) N)) (fits 1 (joined-length 1 (depthOf q) N ld) (R .depths)) i;
+        depths = patch-length (u .depths) 0 (joined (map (depthOf q) N)) (fits 2 (joined-length 2 (depthOf q) N ld) (R .depths)) i;
         raw = length (u .raw);
       };
     }
   where
-    fits : {x len : ℕ} (w : ℕ) → x ≡ pairsOf q * w → (pairsOf q + limit) * w ≤ len → 0 + x ≤ len
-    fits {x} {len} w e h = let f = fits-in (pairsOf q) (pairsOf q + limit) w len (omega arith) h in omega arith
+    fits : {x len : ℕ} (w : ℕ) → x ≡ pairsOf q * w → (pairsOf q + spare) * w ≤ len → 0 + x ≤ len
+    fits {x} {len} w e h = let f = fits-in (pairsOf q) (pairsOf q + spare) w len (omega arith) h in omega arith

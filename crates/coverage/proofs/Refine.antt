@@ -16,8 +16,10 @@ use Rattle.lists.proofs.Parts.{patch-length, block-take, block-append, block-be
 use Rattle.verdicts.specs.declared.Test.the-variants.{Box, Plane, Line}
 use Rattle.verdicts.specs.declared.Verdict.{Verdict}
 use Rattle.verdicts.specs.declared.Verdict.the-variants.{Settled, Split, Unseparated}
-use Rattle.machine.specs.Machine.{Shape, Node, OwnVerdict, Settling, Search, limit, partOf, depth, child, larger, none, ended, giveUp, divide, advance, tagged}
-use Rattle.machine.proofs.Cover.{child-depth, tags-sum, Deep, Counts as Balance, count-advance}
+use Rattle.verdicts.specs.declared.Choice.{Choice}
+use Rattle.verdicts.specs.declared.Choice.the-variants.{First, Second, Neither}
+use Rattle.machine.specs.Machine.{Shape, Node, OwnVerdict, Settling, Search, partOf, depth1, depth2, choiceOf, child, none, ended, giveUp, splitAlong, divide, advance, tagged}
+use Rattle.machine.proofs.Cover.{Deep, Below, Chosen, chosen-below, tags-sum, Counts as Balance, count-advance}
 use Rattle.regions.specs.declared.Region.{Region}
 use Rattle.regions.specs.Regions.{flat, flats}
 use Rattle.states.specs.declared.State.{State}
@@ -25,10 +27,11 @@ use Rattle.facts.proofs.Reflect.{as-true}
 use Rattle.states.proofs.Tests.{RoomAll, room-all}
 use Rattle.search.specs.declared.Stepped.the-variants.{Next, Ended, NoRoom}
 use Rattle.nodes.specs.Geometry.{regionOf}
-use Rattle.states.specs.States.{Memory, memory, Sizes, sizes, needed, enough, enoughOwn, topDepth, isZero, topFits, isSearch, over, countsOf, depthAt, allowanceOf}
+use Rattle.states.specs.declared.Depths.{Depths}
+use Rattle.states.specs.States.{limit, spare, Memory, memory, Sizes, sizes, needed, enough, enoughOwn, topDepth, isZero, topFits, isSearch, over, countsOf, depthsOf, depthAt, pairOf, deepened, allowanceOf}
 use Rattle.search.specs.Steps.{part1, part2}
 use Rattle.nodes.specs.Moves.{givenState}
-use Rattle.search.specs.Steps.{Stepping, stepping, halves, splitMemory, giveUpAt, divideAt, actOn, stepDef}
+use Rattle.search.specs.Steps.{Stepping, stepping, halves, choiceAt, splitMemory, giveUpAt, splitAt, divideAt, actOn, stepDef}
 use Rattle.coverage.specs.Calls.{stepped, Outcome, lend, giveBack, stepOutcome}
 use Rattle.opening.specs.Asked.{Asked, shape, pairsOf, start, stateOf, resultOf, depthOf, allowanceFor, recordsFor}
 use Rattle.coverage.specs.Rules.{Ruled, lent}
@@ -39,7 +42,7 @@ pub record Agree (q : Asked) (K : ℕ) (u w : Memory) : Type 0 where
   pub net1 : (k : ℕ) → k < K → block (4 * q .width1) k (w .nets1) ≡ block (4 * q .width1) k (u .nets1)
   pub net2 : (k : ℕ) → k < K → block (4 * q .width2) k (w .nets2) ≡ block (4 * q .width2) k (u .nets2)
   pub ranges : (k : ℕ) → k < K → block 4 k (w .ranges) ≡ block 4 k (u .ranges)
-  pub depth : (k : ℕ) → k < K → block 1 k (w .depths) ≡ block 1 k (u .depths)
+  pub depth : (k : ℕ) → k < K → block 2 k (w .depths) ≡ block 2 k (u .depths)
 
 pub agree-stored : (q : Asked) (K : ℕ) (u w : Memory) (l : List (Node (shape q))) → Agree q K u w → length l ≤ K → AllStored q u l → AllStored q w l
 agree-stored q K u w [] a h z = tt
@@ -66,50 +69,50 @@ fits-in k K n len h r = le-trans (mul-le-mul-right n h) r
 
 -- what a size that suffices for the own verdict gives
 pub record RoomOwn (q : Asked) (s : Sizes) : Type 0 where
-  pub nets1 : (pairsOf q + limit) * (4 * q .width1) ≤ s .nets1
-  pub nets2 : (pairsOf q + limit) * (4 * q .width2) ≤ s .nets2
-  pub depths : (pairsOf q + limit) * 1 ≤ s .depths
+  pub nets1 : (pairsOf q + spare) * (4 * q .width1) ≤ s .nets1
+  pub nets2 : (pairsOf q + spare) * (4 * q .width2) ≤ s .nets2
+  pub depths : (pairsOf q + spare) * 2 ≤ s .depths
 
 pub room-own : (q : Asked) (s : Sizes) → T (enoughOwn (needed (stateOf q (start q))) s) → RoomOwn q s
 room-own q s t =
     let P = pairsOf q in
-    let b1 = leb ((P + limit) * (4 * q .width1)) (s .nets1) in
-    let b2 = leb ((P + limit) * (4 * q .width2)) (s .nets2) in
-    let b4 = leb ((P + limit) * 1) (s .depths) in
+    let b1 = leb ((P + spare) * (4 * q .width1)) (s .nets1) in
+    let b2 = leb ((P + spare) * (4 * q .width2)) (s .nets2) in
+    let b4 = leb ((P + spare) * 2) (s .depths) in
     let t2 : T (b2 && b4) = and-r b1 (b2 && b4) t in
     record {
-      nets1 = leb→le ((P + limit) * (4 * q .width1)) (s .nets1) (and-l b1 (b2 && b4) t);
-      nets2 = leb→le ((P + limit) * (4 * q .width2)) (s .nets2) (and-l b2 b4 t2);
-      depths = leb→le ((P + limit) * 1) (s .depths) (and-r b2 b4 t2);
+      nets1 = leb→le ((P + spare) * (4 * q .width1)) (s .nets1) (and-l b1 (b2 && b4) t);
+      nets2 = leb→le ((P + spare) * (4 * q .width2)) (s .nets2) (and-l b2 b4 t2);
+      depths = leb→le ((P + spare) * 2) (s .depths) (and-r b2 b4 t2);
     }
 
 -- the slot k of a start that is long enough
-pub start-block : {A : Type 0} (q : Asked) (N : ℕ) (l : List A) (w k : ℕ) → k < pairsOf q + limit → (pairsOf q + limit) * w ≤ length (take N l)
+pub start-block : {A : Type 0} (q : Asked) (N : ℕ) (l : List A) (w k : ℕ) → k < pairsOf q + spare → (pairsOf q + spare) * w ≤ length (take N l)
     → block w k (take N l) ≡ block w k l
-start-block q N l w k h r = let m = length-take N l in let f : suc k * w ≤ (pairsOf q + limit) * w = mul-le-mul-right w h in block-take w k N l (omega arith)
+start-block q N l w k h r = let m = length-take N l in let f : suc k * w ≤ (pairsOf q + spare) * w = mul-le-mul-right w h in block-take w k N l (omega arith)
 
 -- ---- a start that is long enough holds the same nodes; and so does a memory given back
-pub agree-lend : (q : Asked) (n : Sizes) (u : Memory) → Room q (sizes (lend n u)) → Agree q (pairsOf q + limit) u (lend n u)
+pub agree-lend : (q : Asked) (n : Sizes) (u : Memory) → Room q (sizes (lend n u)) → Agree q (pairsOf q + spare) u (lend n u)
 agree-lend q n u r = record {
   net1 = λ k h. block-take (4 * q .width1) k (n .nets1) (u .nets1) (go (n .nets1) (u .nets1) (4 * q .width1) k h (r .nets1));
   net2 = λ k h. block-take (4 * q .width2) k (n .nets2) (u .nets2) (go (n .nets2) (u .nets2) (4 * q .width2) k h (r .nets2));
   ranges = λ k h. block-take 4 k (n .ranges) (u .ranges) (go (n .ranges) (u .ranges) 4 k h (r .ranges));
-  depth = λ k h. block-take 1 k (n .depths) (u .depths) (go (n .depths) (u .depths) 1 k h (r .depths));
+  depth = λ k h. block-take 2 k (n .depths) (u .depths) (go (n .depths) (u .depths) 2 k h (r .depths));
 }
   where
-    go : {A : Type 0} (N : ℕ) (l : List A) (w k : ℕ) → k < pairsOf q + limit → (pairsOf q + limit) * w ≤ length (take N l) → suc k * w ≤ N
-    go N l w k h r = let m = length-take N l in let f : suc k * w ≤ (pairsOf q + limit) * w = mul-le-mul-right w h in omega arith
+    go : {A : Type 0} (N : ℕ) (l : List A) (w k : ℕ) → k < pairsOf q + spare → (pairsOf q + spare) * w ≤ length (take N l) → suc k * w ≤ N
+    go N l w k h r = let m = length-take N l in let f : suc k * w ≤ (pairsOf q + spare) * w = mul-le-mul-right w h in omega arith
 
-pub agree-back : (q : Asked) (n : Sizes) (w u : Memory) → Room q (sizes w) → Agree q (pairsOf q + limit) w (giveBack n w u)
+pub agree-back : (q : Asked) (n : Sizes) (w u : Memory) → Room q (sizes w) → Agree q (pairsOf q + spare) w (giveBack n w u)
 agree-back q n w u r = record {
   net1 =
       λ k h. block-append (4 * q .width1) k (w .nets1) (drop (n .nets1) (u .nets1))
-      (fits-in (suc k) (pairsOf q + limit) (4 * q .width1) (length (w .nets1)) h (r .nets1));
+      (fits-in (suc k) (pairsOf q + spare) (4 * q .width1) (length (w .nets1)) h (r .nets1));
   net2 =
       λ k h. block-append (4 * q .width2) k (w .nets2) (drop (n .nets2) (u .nets2))
-      (fits-in (suc k) (pairsOf q + limit) (4 * q .width2) (length (w .nets2)) h (r .nets2));
-  ranges = λ k h. block-append 4 k (w .ranges) (drop (n .ranges) (u .ranges)) (fits-in (suc k) (pairsOf q + limit) 4 (length (w .ranges)) h (r .ranges));
-  depth = λ k h. block-append 1 k (w .depths) (drop (n .depths) (u .depths)) (fits-in (suc k) (pairsOf q + limit) 1 (length (w .depths)) h (r .depths));
+      (fits-in (suc k) (pairsOf q + spare) (4 * q .width2) (length (w .nets2)) h (r .nets2));
+  ranges = λ k h. block-append 4 k (w .ranges) (drop (n .ranges) (u .ranges)) (fits-in (suc k) (pairsOf q + spare) 4 (length (w .ranges)) h (r .ranges));
+  depth = λ k h. block-append 2 k (w .depths) (drop (n .depths) (u .depths)) (fits-in (suc k) (pairsOf q + spare) 2 (length (w .depths)) h (r .depths));
 }
 
 pub lend-back : (n : Sizes) (u : Memory) → giveBack n (lend n u) u ≡ u
@@ -160,8 +163,12 @@ part1-is q m u k n z = λ i. record { lo = getD (z .ranges i) 0 nan; hi = getD (
 pub part2-is : (q : Asked) (m : Search (shape q)) (u : Memory) (k : ℕ) (n : Node (shape q)) → Stored q u k n → part2 (stateOf q m) u k ≡ partOf (shape q) (n .b)
 part2-is q m u k n z = λ i. record { lo = getD (z .ranges i) 2 nan; hi = getD (z .ranges i) 3 nan; net = z .net2 i }
 
-pub depth-is : (q : Asked) (u : Memory) (k : ℕ) (n : Node (shape q)) → Stored q u k n → depthAt (u .depths) k ≡ depth (shape q) n
-depth-is q u k n z = ap (λ (l : List ℕ). getD l 0 0) (z .depth)
+-- a node's two depths
+abbrev pub depths : (q : Asked) → Node (shape q) → Depths
+depths q n = depthsOf (depth1 (shape q) n) (depth2 (shape q) n)
+
+pub depth-is : (q : Asked) (u : Memory) (k : ℕ) (n : Node (shape q)) → Stored q u k n → depthAt (u .depths) k ≡ depths q n
+depth-is q u k n z = ap (λ (l : List ℕ). depthsOf (getD l 0 0) (getD l 1 0)) (z .depth)
 
 block-length : {A : Type 0} (w k : ℕ) (l : List A) → suc k * w ≤ length l → length (block w k l) ≡ w
 block-length w k l h = let m : suc k * w ≡ k * w + w = suc-mul k w in let d = length-drop (k * w) l in length-take-le w (drop (k * w) l) (omega arith)
@@ -179,25 +186,29 @@ child-b q true false n = refl
 child-b q false true n = refl
 child-b q false false n = refl
 
--- the memory after a Split of node n in slot k
-abbrev pub splitAt : (q : Asked) → ℕ → Memory → Node (shape q) → Memory
-splitAt q k u n = splitMemory (q .geometry) k (stateOf q (start q)) u (partOf (shape q) (n .a)) (partOf (shape q) (n .b)) (suc (depth (shape q) n))
+-- the memory after a split of node n in slot k along its second line (true) or its first
+abbrev pub splitIn : (q : Asked) → Bool → ℕ → Memory → Node (shape q) → Memory
+splitIn q b k u n = splitMemory (q .geometry) b k (stateOf q (start q)) u (partOf (shape q) (n .a)) (partOf (shape q) (n .b)) (depths q n)
 
 -- what the lower (false) and the upper (true) half's slot receives
-abbrev pub newNet1 : (q : Asked) → Node (shape q) → Bool → List Float
-newNet1 q n c = halves (q .geometry) (not (larger (shape q) n)) c (partOf (shape q) (n .a)) .net
+abbrev pub newNet1 : (q : Asked) → Bool → Node (shape q) → Bool → List Float
+newNet1 q b n c = halves (q .geometry) (not b) c (partOf (shape q) (n .a)) .net
 
-abbrev pub newNet2 : (q : Asked) → Node (shape q) → Bool → List Float
-newNet2 q n c = halves (q .geometry) (larger (shape q) n) c (partOf (shape q) (n .b)) .net
+abbrev pub newNet2 : (q : Asked) → Bool → Node (shape q) → Bool → List Float
+newNet2 q b n c = halves (q .geometry) b c (partOf (shape q) (n .b)) .net
 
-abbrev pub newRanges : (q : Asked) → Node (shape q) → Bool → List Float
-newRanges q n c =
-    let p = halves (q .geometry) (not (larger (shape q) n)) c (partOf (shape q) (n .a)) in
-    let r = halves (q .geometry) (larger (shape q) n) c (partOf (shape q) (n .b)) in
+abbrev pub newRanges : (q : Asked) → Bool → Node (shape q) → Bool → List Float
+newRanges q b n c =
+    let p = halves (q .geometry) (not b) c (partOf (shape q) (n .a)) in
+    let r = halves (q .geometry) b c (partOf (shape q) (n .b)) in
     p .lo ∷ p .hi ∷ r .lo ∷ r .hi ∷ []
 
-abbrev pub newDepth : (q : Asked) → Node (shape q) → List ℕ
-newDepth q n = suc (depth (shape q) n) ∷ []
+abbrev pub newDepth : (q : Asked) → Bool → Node (shape q) → List ℕ
+newDepth q b n = pairOf (deepened b (depths q n))
+
+child-depths : (q : Asked) (b u : Bool) (n : Node (shape q)) → pairOf (deepened b (depths q n)) ≡ depthOf q (child (shape q) b u n)
+child-depths q true u n = refl
+child-depths q false u n = refl
 
 module _ (q : Asked) (low : (w : ℕ) (l : List Float) → length l ≡ 4 * w → length (q .geometry .lowerNet l) ≡ 4 * w)
     (upp : (w : ℕ) (l : List Float) → length l ≡ 4 * w → length (q .geometry .upperNet l) ≡ 4 * w) where
@@ -206,97 +217,95 @@ module _ (q : Asked) (low : (w : ℕ) (l : List Float) → length l ≡ 4 * w �
   half-length w true false p h = low w (p .net) h
   half-length w false u p h = h
 
-  room2 : (k w len : ℕ) → suc (suc k) ≤ pairsOf q + limit → (pairsOf q + limit) * w ≤ len → k * w + (w + w) ≤ len
-  room2 k w len h r = let f = fits-in (suc (suc k)) (pairsOf q + limit) w len h r in let a = suc-mul (suc k) w in let b = suc-mul k w in omega arith
+  room2 : (k w len : ℕ) → suc (suc k) ≤ pairsOf q + spare → (pairsOf q + spare) * w ≤ len → k * w + (w + w) ≤ len
+  room2 k w len h r = let f = fits-in (suc (suc k)) (pairsOf q + spare) w len h r in let a = suc-mul (suc k) w in let b = suc-mul k w in omega arith
 
   pair-length : {A : Type 0} (w : ℕ) (a b : List A) → length a ≡ w → length b ≡ w → length (a ++ b) ≡ w + w
   pair-length w a b e f = length-append a b ∙ ap (λ (z : ℕ). z + length b) e ∙ ap (λ (z : ℕ). w + z) f
 
-  module _ (k : ℕ) (u : Memory) (n : Node (shape q)) (fit : suc (suc k) ≤ pairsOf q + limit) (r : Room q (sizes u)) (z : Stored q u k n) where
-    la : (c : Bool) → length (halves (q .geometry) (not (larger (shape q) n)) c (partOf (shape q) (n .a)) .net) ≡ 4 * q .width1
+  module _ (b : Bool) (k : ℕ) (u : Memory) (n : Node (shape q)) (fit : suc (suc k) ≤ pairsOf q + spare) (r : Room q (sizes u)) (z : Stored q u k n) where
+    la : (c : Bool) → length (halves (q .geometry) (not b) c (partOf (shape q) (n .a)) .net) ≡ 4 * q .width1
     la c =
-        half-length (q .width1) (not (larger (shape q) n)) c (partOf (shape q) (n .a))
+        half-length (q .width1) (not b) c (partOf (shape q) (n .a))
         (ap length (sym (z .net1))
-        ∙ block-length (4 * q .width1) k (u .nets1) (fits-in (suc k) (pairsOf q + limit) (4 * q .width1) (length (u .nets1)) (omega arith) (r .nets1)))
+        ∙ block-length (4 * q .width1) k (u .nets1) (fits-in (suc k) (pairsOf q + spare) (4 * q .width1) (length (u .nets1)) (omega arith) (r .nets1)))
 
-    lb : (c : Bool) → length (halves (q .geometry) (larger (shape q) n) c (partOf (shape q) (n .b)) .net) ≡ 4 * q .width2
+    lb : (c : Bool) → length (halves (q .geometry) b c (partOf (shape q) (n .b)) .net) ≡ 4 * q .width2
     lb c =
-        half-length (q .width2) (larger (shape q) n) c (partOf (shape q) (n .b))
+        half-length (q .width2) b c (partOf (shape q) (n .b))
         (ap length (sym (z .net2))
-        ∙ block-length (4 * q .width2) k (u .nets2) (fits-in (suc k) (pairsOf q + limit) (4 * q .width2) (length (u .nets2)) (omega arith) (r .nets2)))
+        ∙ block-length (4 * q .width2) k (u .nets2) (fits-in (suc k) (pairsOf q + spare) (4 * q .width2) (length (u .nets2)) (omega arith) (r .nets2)))
 
-    start-fits : (w len : ℕ) → (pairsOf q + limit) * w ≤ len → k * w ≤ len
-    start-fits w len h = fits-in k (pairsOf q + limit) w len (omega arith) h
+    start-fits : (w len : ℕ) → (pairsOf q + spare) * w ≤ len → k * w ≤ len
+    start-fits w len h = fits-in k (pairsOf q + spare) w len (omega arith) h
 
-    pub split-upper : Stored q (splitAt q k u n) k (child (shape q) (larger (shape q) n) true n)
+    pub split-upper : Stored q (splitIn q b k u n) k (child (shape q) b true n)
     split-upper =
-        let b = larger (shape q) n in
         let pa = child-a q b true n in
         let pb = child-b q b true n in
         record {
           net1 =
-              block-first (4 * q .width1) k (u .nets1) (newNet1 q n true) (newNet1 q n false)
+              block-first (4 * q .width1) k (u .nets1) (newNet1 q b n true) (newNet1 q b n false)
               (start-fits (4 * q .width1) (length (u .nets1)) (r .nets1)) (la true) ∙ ap (λ (p : Piece). p .net) pa;
           net2 =
-              block-first (4 * q .width2) k (u .nets2) (newNet2 q n true) (newNet2 q n false)
+              block-first (4 * q .width2) k (u .nets2) (newNet2 q b n true) (newNet2 q b n false)
               (start-fits (4 * q .width2) (length (u .nets2)) (r .nets2)) (lb true) ∙ ap (λ (p : Piece). p .net) pb;
           ranges =
-              block-first 4 k (u .ranges) (newRanges q n true) (newRanges q n false) (start-fits 4 (length (u .ranges)) (r .ranges)) refl
+              block-first 4 k (u .ranges) (newRanges q b n true) (newRanges q b n false) (start-fits 4 (length (u .ranges)) (r .ranges)) refl
               ∙ (λ i. pa i .lo ∷ pa i .hi ∷ pb i .lo ∷ pb i .hi ∷ []);
           depth =
-              block-first 1 k (u .depths) (newDepth q n) (newDepth q n) (start-fits 1 (length (u .depths)) (r .depths)) refl
-              ∙ ap {B = List ℕ} (λ (d : ℕ). d ∷ []) (sym (child-depth (shape q) b true n));
+              block-first 2 k (u .depths) (newDepth q b n) (newDepth q b n) (start-fits 2 (length (u .depths)) (r .depths)) refl
+              ∙ child-depths q b true n;
         }
 
-    pub split-lower : Stored q (splitAt q k u n) (suc k) (child (shape q) (larger (shape q) n) false n)
+    pub split-lower : Stored q (splitIn q b k u n) (suc k) (child (shape q) b false n)
     split-lower =
-        let b = larger (shape q) n in
         let pa = child-a q b false n in
         let pb = child-b q b false n in
         record {
           net1 =
-              block-second (4 * q .width1) k (u .nets1) (newNet1 q n true) (newNet1 q n false)
+              block-second (4 * q .width1) k (u .nets1) (newNet1 q b n true) (newNet1 q b n false)
               (start-fits (4 * q .width1) (length (u .nets1)) (r .nets1)) (la true) (la false) ∙ ap (λ (p : Piece). p .net) pa;
           net2 =
-              block-second (4 * q .width2) k (u .nets2) (newNet2 q n true) (newNet2 q n false)
+              block-second (4 * q .width2) k (u .nets2) (newNet2 q b n true) (newNet2 q b n false)
               (start-fits (4 * q .width2) (length (u .nets2)) (r .nets2)) (lb true) (lb false) ∙ ap (λ (p : Piece). p .net) pb;
           ranges =
-              block-second 4 k (u .ranges) (newRanges q n true) (newRanges q n false) (start-fits 4 (length (u .ranges)) (r .ranges)) refl refl
+              block-second 4 k (u .ranges) (newRanges q b n true) (newRanges q b n false) (start-fits 4 (length (u .ranges)) (r .ranges)) refl refl
               ∙ (λ i. pa i .lo ∷ pa i .hi ∷ pb i .lo ∷ pb i .hi ∷ []);
           depth =
-              block-second 1 k (u .depths) (newDepth q n) (newDepth q n) (start-fits 1 (length (u .depths)) (r .depths)) refl refl
-              ∙ ap {B = List ℕ} (λ (d : ℕ). d ∷ []) (sym (child-depth (shape q) b false n));
+              block-second 2 k (u .depths) (newDepth q b n) (newDepth q b n) (start-fits 2 (length (u .depths)) (r .depths)) refl refl
+              ∙ child-depths q b false n;
         }
 
     -- the slots below stay
-    pub split-below : Agree q k u (splitAt q k u n)
+    pub split-below : Agree q k u (splitIn q b k u n)
     split-below = record {
       net1 =
-          λ j h. block-before (4 * q .width1) j (k * (4 * q .width1)) (u .nets1) (newNet1 q n true ++ newNet1 q n false)
+          λ j h. block-before (4 * q .width1) j (k * (4 * q .width1)) (u .nets1) (newNet1 q b n true ++ newNet1 q b n false)
           (mul-le-mul-right (4 * q .width1) h) (start-fits (4 * q .width1) (length (u .nets1)) (r .nets1));
       net2 =
-          λ j h. block-before (4 * q .width2) j (k * (4 * q .width2)) (u .nets2) (newNet2 q n true ++ newNet2 q n false)
+          λ j h. block-before (4 * q .width2) j (k * (4 * q .width2)) (u .nets2) (newNet2 q b n true ++ newNet2 q b n false)
           (mul-le-mul-right (4 * q .width2) h) (start-fits (4 * q .width2) (length (u .nets2)) (r .nets2));
       ranges =
-          λ j h. block-before 4 j (k * 4) (u .ranges) (newRanges q n true ++ newRanges q n false) (mul-le-mul-right 4 h)
+          λ j h. block-before 4 j (k * 4) (u .ranges) (newRanges q b n true ++ newRanges q b n false) (mul-le-mul-right 4 h)
           (start-fits 4 (length (u .ranges)) (r .ranges));
-      depth = λ j h. block-before 1 j (k * 1) (u .depths) (newDepth q n ++ newDepth q n) (mul-le-mul-right 1 h) (start-fits 1 (length (u .depths)) (r .depths));
+      depth = λ j h. block-before 2 j (k * 2) (u .depths) (newDepth q b n ++ newDepth q b n) (mul-le-mul-right 2 h) (start-fits 2 (length (u .depths)) (r .depths));
     }
 
-    pub split-sizes : sizes (splitAt q k u n) ≡ sizes u
+    pub split-sizes : sizes (splitIn q b k u n) ≡ sizes u
     split-sizes = λ i. record {
       nets1 =
-          patch-length (u .nets1) (k * (4 * q .width1)) (newNet1 q n true ++ newNet1 q n false)
+          patch-length (u .nets1) (k * (4 * q .width1)) (newNet1 q b n true ++ newNet1 q b n false)
           (subst (λ (x : ℕ). k * (4 * q .width1) + x ≤ length (u .nets1))
-          (sym (pair-length (4 * q .width1) (newNet1 q n true) (newNet1 q n false) (la true) (la false)))
+          (sym (pair-length (4 * q .width1) (newNet1 q b n true) (newNet1 q b n false) (la true) (la false)))
           (room2 k (4 * q .width1) (length (u .nets1)) fit (r .nets1))) i;
       nets2 =
-          patch-length (u .nets2) (k * (4 * q .width2)) (newNet2 q n true ++ newNet2 q n false)
+          patch-length (u .nets2) (k * (4 * q .width2)) (newNet2 q b n true ++ newNet2 q b n false)
           (subst (λ (x : ℕ). k * (4 * q .width2) + x ≤ length (u .nets2))
-          (sym (pair-length (4 * q .width2) (newNet2 q n true) (newNet2 q n false) (lb true) (lb false)))
+          (sym (pair-length (4 * q .width2) (newNet2 q b n true) (newNet2 q b n false) (lb true) (lb false)))
           (room2 k (4 * q .width2) (length (u .nets2)) fit (r .nets2))) i;
-      ranges = patch-length (u .ranges) (k * 4) (newRanges q n true ++ newRanges q n false) (room2 k 4 (length (u .ranges)) fit (r .ranges)) i;
-      depths = patch-length (u .depths) (k * 1) (newDepth q n ++ newDepth q n) (room2 k 1 (length (u .depths)) fit (r .depths)) i;
+      ranges = patch-length (u .ranges) (k * 4) (newRanges q b n true ++ newRanges q b n false) (room2 k 4 (length (u .ranges)) fit (r .ranges)) i;
+      depths = patch-length (u .depths) (k * 2) (newDepth q b n ++ newDepth q b n) (room2 k 2 (length (u .depths)) fit (r .depths)) i;
       raw = length (u .raw);
     }
 
@@ -442,54 +451,71 @@ module _ (q : Asked) (low : (w : ℕ) (l : List Float) → length l ≡ 4 * w �
           visited = let v = N .visited in omega arith;
         })
 
-    stop-sim : Numbers q (divide (shape q) false zero n r (search q (n ∷ r) se gi vi sp un false ow))
-        → StepSim q (stepOutcome (stateOf q (search q (n ∷ r) se gi vi sp un false ow))
-        (divideAt (q .geometry) false zero (length r) (stateOf q (search q (n ∷ r) se gi vi sp un false ow)) w (partOf (shape q) (n .a))
-        (partOf (shape q) (n .b)) (depth (shape q) n)))
-        (accepted q (divide (shape q) false zero n r (search q (n ∷ r) se gi vi sp un false ow))) (search q (n ∷ r) se gi vi sp un false ow) w
-    stop-sim K =
-        let m' = divide (shape q) false zero n r (search q (n ∷ r) se gi vi sp un false ow) in
-        moved refl refl (record { nodes = H .nodes; raw = H .raw }) refl R K
+    -- where a line can still be halved, the depths sum to under 64
+    below-sum : (b : Bool) → Below (shape q) b n → depth1 (shape q) n ≤ limit → depth2 (shape q) n ≤ limit → depth1 (shape q) n + depth2 (shape q) n < spare
+    below-sum true h f g = omega arith
+    below-sum false h f g = omega arith
 
-    split-sim : (s : ℕ) → depth (shape q) n < limit → Numbers q (divide (shape q) false (suc s) n r (search q (n ∷ r) se gi vi sp un false ow))
+    stop-sim : (b : Bool) → Numbers q (splitAlong (shape q) b zero n r (search q (n ∷ r) se gi vi sp un false ow))
         → StepSim q (stepOutcome (stateOf q (search q (n ∷ r) se gi vi sp un false ow))
-        (divideAt (q .geometry) false (suc s) (length r) (stateOf q (search q (n ∷ r) se gi vi sp un false ow)) w (partOf (shape q) (n .a))
-        (partOf (shape q) (n .b)) (depth (shape q) n)))
-        (accepted q (divide (shape q) false (suc s) n r (search q (n ∷ r) se gi vi sp un false ow))) (search q (n ∷ r) se gi vi sp un false ow) w
-    split-sim s d K =
-        let m' = divide (shape q) false (suc s) n r (search q (n ∷ r) se gi vi sp un false ow) in
+        (splitAt (q .geometry) b zero (length r) (stateOf q (search q (n ∷ r) se gi vi sp un false ow)) w (partOf (shape q) (n .a))
+        (partOf (shape q) (n .b)) (depths q n)))
+        (accepted q (splitAlong (shape q) b zero n r (search q (n ∷ r) se gi vi sp un false ow))) (search q (n ∷ r) se gi vi sp un false ow) w
+    stop-sim b K = moved refl refl (record { nodes = H .nodes; raw = H .raw }) refl R K
+
+    halve-sim : (b : Bool) (s : ℕ) → Below (shape q) b n → Numbers q (splitAlong (shape q) b (suc s) n r (search q (n ∷ r) se gi vi sp un false ow))
+        → StepSim q (stepOutcome (stateOf q (search q (n ∷ r) se gi vi sp un false ow))
+        (splitAt (q .geometry) b (suc s) (length r) (stateOf q (search q (n ∷ r) se gi vi sp un false ow)) w (partOf (shape q) (n .a))
+        (partOf (shape q) (n .b)) (depths q n)))
+        (accepted q (splitAlong (shape q) b (suc s) n r (search q (n ∷ r) se gi vi sp un false ow))) (search q (n ∷ r) se gi vi sp un false ow) w
+    halve-sim b s d K =
         let dp = N .counts .steep .0 in
-        let fit : suc (suc (length r)) ≤ pairsOf q + limit = omega arith in
+        let hp = dp .height in
+        let sp = below-sum b d (dp .shallow .first) (dp .shallow .second) in
+        let fit : suc (suc (length r)) ≤ pairsOf q + spare = omega arith in
         let z = H .nodes .0 in
         moved refl refl
         (record {
-          nodes =
-              (split-lower q low upp (length r) w n fit R z, (split-upper q low upp (length r) w n fit R z, agree-stored q (length r) w (splitAt q (length r) w n) r (split-below q low upp (length r) w n fit R z) (le-refl (length r)) (H .nodes .1)));
+          nodes = (
+            split-lower q low upp b (length r) w n fit R z,
+            (
+              split-upper q low upp b (length r) w n fit R z,
+              agree-stored q (length r) w (splitIn q b (length r) w n) r (split-below q low upp b (length r) w n fit R z) (le-refl (length r)) (H .nodes .1),
+            ),
+          );
           raw = H .raw;
         })
-        (split-sizes q low upp (length r) w n fit R z) R K
+        (split-sizes q low upp b (length r) w n fit R z) R K
 
     -- the numbers after a Split
-    divide-numbers : (b : Bool) (k : ℕ) → un ≡ k → Balance (shape q) (pairsOf q) (divide (shape q) b k n r (search q (n ∷ r) se gi vi sp un false ow))
-        → Numbers q (divide (shape q) b k n r (search q (n ∷ r) se gi vi sp un false ow))
-    divide-numbers true k e c = record { counts = c; allowance = N .allowance; visited = let v = N .visited in let g = length-append gi (n ∷ []) in omega arith }
-    divide-numbers false zero e c = record { counts = c; allowance = let a = N .allowance in omega arith; visited = let v = N .visited in omega arith }
-    divide-numbers false (suc k) e c = record { counts = c; allowance = let a = N .allowance in omega arith; visited = let v = N .visited in omega arith }
+    split-numbers : (b : Bool) (k : ℕ) → un ≡ k → Balance (shape q) (pairsOf q) (splitAlong (shape q) b k n r (search q (n ∷ r) se gi vi sp un false ow))
+        → Numbers q (splitAlong (shape q) b k n r (search q (n ∷ r) se gi vi sp un false ow))
+    split-numbers b zero e c = record { counts = c; allowance = let a = N .allowance in omega arith; visited = let v = N .visited in omega arith }
+    split-numbers b (suc k) e c = record { counts = c; allowance = let a = N .allowance in omega arith; visited = let v = N .visited in omega arith }
 
-    divide-sim : (b : Bool) (k : ℕ) → un ≡ k → (T (not b) → depth (shape q) n < limit)
-        → Balance (shape q) (pairsOf q) (divide (shape q) b k n r (search q (n ∷ r) se gi vi sp un false ow))
+    split-sim : (b : Bool) (k : ℕ) → un ≡ k → Below (shape q) b n
+        → Balance (shape q) (pairsOf q) (splitAlong (shape q) b k n r (search q (n ∷ r) se gi vi sp un false ow))
         → StepSim q (stepOutcome (stateOf q (search q (n ∷ r) se gi vi sp un false ow))
-        (divideAt (q .geometry) b k (length r) (stateOf q (search q (n ∷ r) se gi vi sp un false ow)) w (partOf (shape q) (n .a))
-        (partOf (shape q) (n .b)) (depth (shape q) n)))
-        (accepted q (divide (shape q) b k n r (search q (n ∷ r) se gi vi sp un false ow))) (search q (n ∷ r) se gi vi sp un false ow) w
-    divide-sim true k e f c = give-sim
-    divide-sim false zero e f c = stop-sim (divide-numbers false zero e c)
-    divide-sim false (suc k) e f c = split-sim k (f tt) (divide-numbers false (suc k) e c)
+        (splitAt (q .geometry) b k (length r) (stateOf q (search q (n ∷ r) se gi vi sp un false ow)) w (partOf (shape q) (n .a))
+        (partOf (shape q) (n .b)) (depths q n)))
+        (accepted q (splitAlong (shape q) b k n r (search q (n ∷ r) se gi vi sp un false ow))) (search q (n ∷ r) se gi vi sp un false ow) w
+    split-sim b zero e f c = stop-sim b (split-numbers b zero e c)
+    split-sim b (suc k) e f c = halve-sim b k f (split-numbers b (suc k) e c)
+
+    divide-sim : (c : Choice) (k : ℕ) → un ≡ k → Chosen (shape q) c n
+        → Balance (shape q) (pairsOf q) (divide (shape q) c k n r (search q (n ∷ r) se gi vi sp un false ow))
+        → StepSim q (stepOutcome (stateOf q (search q (n ∷ r) se gi vi sp un false ow))
+        (divideAt (q .geometry) c k (length r) (stateOf q (search q (n ∷ r) se gi vi sp un false ow)) w (partOf (shape q) (n .a))
+        (partOf (shape q) (n .b)) (depths q n)))
+        (accepted q (divide (shape q) c k n r (search q (n ∷ r) se gi vi sp un false ow))) (search q (n ∷ r) se gi vi sp un false ow) w
+    divide-sim First k e f c = split-sim false k e f c
+    divide-sim Second k e f c = split-sim true k e f c
+    divide-sim Neither k e f c = give-sim
 
     -- the top node's parts and depth, as read
-    at-parts : (F : Piece → Piece → ℕ → Stepping) (R' : Ruled q)
+    at-parts : (F : Piece → Piece → Depths → Stepping) (R' : Ruled q)
         → StepSim q (stepOutcome (stateOf q (search q (n ∷ r) se gi vi sp un false ow))
-        (F (partOf (shape q) (n .a)) (partOf (shape q) (n .b)) (depth (shape q) n))) R' (search q (n ∷ r) se gi vi sp un false ow) w
+        (F (partOf (shape q) (n .a)) (partOf (shape q) (n .b)) (depths q n))) R' (search q (n ∷ r) se gi vi sp un false ow) w
         → StepSim q (stepOutcome (stateOf q (search q (n ∷ r) se gi vi sp un false ow))
         (F (part1 (stateOf q (search q (n ∷ r) se gi vi sp un false ow)) w (length r))
         (part2 (stateOf q (search q (n ∷ r) se gi vi sp un false ow)) w (length r)) (depthAt (w .depths) (length r)))) R'
@@ -514,15 +540,15 @@ module _ (q : Asked) (low : (w : ℕ) (l : List Float) → length l ≡ 4 * w �
         (accepted q (giveUp (shape q) n r (search q (n ∷ r) se gi vi sp un false ow))) give-sim
     act-sim Split =
         let m = search q (n ∷ r) se gi vi sp un false ow in
-        at-parts (λ p p' d. divideAt (q .geometry) (leb limit d) un (length r) (stateOf q m) w p p' d)
-        (accepted q (divide (shape q) (leb limit (depth (shape q) n)) un n r m))
-        (divide-sim (leb limit (depth (shape q) n)) un refl (nleb→lt limit (depth (shape q) n)) (count-advance (shape q) (pairsOf q) Split m (N .counts)))
+        at-parts (λ p p' d. divideAt (q .geometry) (choiceAt (q .geometry) p p' d) un (length r) (stateOf q m) w p p' d)
+        (accepted q (divide (shape q) (choiceOf (shape q) n) un n r m))
+        (divide-sim (choiceOf (shape q) n) un refl (chosen-below (shape q) n) (count-advance (shape q) (pairsOf q) Split m (N .counts)))
 
 -- ---- the test of a state passes for a search
--- the top node's depth is in its slot
+-- the top node's depths are in its slot
 abbrev pub TopDepth : (q : Asked) → Memory → List (Node (shape q)) → Type 0
 TopDepth q w [] = Unit {0}
-TopDepth q w (n ∷ r) = block 1 (length r) (w .depths) ≡ depthOf q n
+TopDepth q w (n ∷ r) = block 2 (length r) (w .depths) ≡ depthOf q n
 
 pub top-depth : (q : Asked) (w : Memory) (l : List (Node (shape q))) → AllStored q w l → TopDepth q w l
 top-depth q w [] z = tt
@@ -532,9 +558,13 @@ topFits-is : (q : Asked) (l : List (Node (shape q))) (w : Memory) → Deep (shap
     → T (topFits (pairsOf q) (length l) (topDepth (length l) (w .depths)))
 topFits-is q [] w d z = tt
 topFits-is q (n ∷ r) w d z =
-    subst (λ (x : ℕ). T (leb (suc (length r)) (pairsOf q + x) && leb x limit)) (sym (ap (λ (l : List ℕ). getD l 0 0) z))
-    (and-i (leb (suc (length r)) (pairsOf q + depth (shape q) n)) (leb (depth (shape q) n) limit)
-    (le→leb (suc (length r)) (pairsOf q + depth (shape q) n) (d .0)) (le→leb (depth (shape q) n) limit (d .1)))
+    let d1 = depth1 (shape q) n in
+    let d2 = depth2 (shape q) n in
+    let h = d .0 in
+    subst (λ (x : Depths). T (leb (suc (length r)) (pairsOf q + (x .first + x .second)) && (leb (x .first) limit && leb (x .second) limit)))
+    (sym (ap (λ (l : List ℕ). depthsOf (getD l 0 0) (getD l 1 0)) z))
+    (and-i (leb (suc (length r)) (pairsOf q + (d1 + d2))) (leb d1 limit && leb d2 limit) (le→leb (suc (length r)) (pairsOf q + (d1 + d2)) (h .height))
+    (and-i (leb d1 limit) (leb d2 limit) (le→leb d1 limit (h .shallow .first)) (le→leb d2 limit (h .shallow .second))))
 
 one-at-most : (b : Bool) → cond b 1 0 ≤ 1
 one-at-most true = omega arith

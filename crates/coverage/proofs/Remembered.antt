@@ -10,7 +10,8 @@ use Rattle.lists.specs.Members.{Any, All}
 use Rattle.verdicts.specs.declared.Test.{Test}
 use Rattle.verdicts.specs.declared.Verdict.{Verdict}
 use Rattle.verdicts.specs.declared.Verdict.the-variants.{Settled, Split, Unseparated}
-use Rattle.machine.specs.Machine.{Node, Settling, Search, limit, depth, ended, divide, onTop, advance, OwnVerdict, settledBy, remember}
+use Rattle.machine.proofs.Cover.{divide-settled}
+use Rattle.machine.specs.Machine.{Node, Settling, Search, choiceOf, ended, onTop, advance, OwnVerdict, settledBy, remember}
 use Rattle.states.specs.declared.State.{State}
 use Rattle.states.specs.States.{Sizes}
 use Rattle.search.specs.declared.Stepped.the-variants.{Next, Ended, NoRoom}
@@ -34,17 +35,12 @@ module _ (q : Asked) (full : Sizes) where
 
   -- ---- nothing settled is taken back
   module _ (P : Settling (shape q) → Type 0) where
-    kept-divide : (b : Bool) (u : ℕ) (n : Node (shape q)) (r : List (Node (shape q))) (m : Search (shape q)) → Any P (m .settled) → Any P (divide (shape q) b u n r m .settled)
-    kept-divide true u n r m h = h
-    kept-divide false zero n r m h = h
-    kept-divide false (suc u) n r m h = h
-
     kept-top : (v : Verdict) (l : List (Node (shape q))) (m : Search (shape q)) → Any P (m .settled) → Any P (onTop (shape q) v l m .settled)
     kept-top (Settled by) [] m h = h
     kept-top Split [] m h = h
     kept-top Unseparated [] m h = h
     kept-top (Settled by) (n ∷ r) m h = inr h
-    kept-top Split (n ∷ r) m h = kept-divide (leb limit (depth (shape q) n)) (m .unspent) n r m h
+    kept-top Split (n ∷ r) m h = subst (Any P) (divide-settled (shape q) (choiceOf (shape q) n) (m .unspent) n r m) h
     kept-top Unseparated (n ∷ r) m h = h
 
     kept-step : (a b : Bool) (v : Verdict) (m : Search (shape q)) → Any P (m .settled) → Any P (stepWith a b v m .search .settled)

@@ -12,7 +12,7 @@ use Rattle.lists.specs.Parts.{block}
 use Rattle.verdicts.specs.declared.Test.{Test}
 use Rattle.verdicts.specs.declared.Verdict.the-variants.{Settled}
 use Rattle.floats.specs.Sizes.{Within}
-use Rattle.machine.specs.Machine.{Node, settledBy, Settling, Search, InNode, ended}
+use Rattle.machine.specs.Machine.{Node, settledBy, Settling, Search, depth1, depth2, InNode, ended}
 use Rattle.machine.specs.Merge.{merged}
 use Rattle.machine.specs.Covered.{SetApart, Covered, Off}
 use Rattle.regions.specs.declared.Region.{Region}
@@ -51,12 +51,12 @@ pub record Fine (q : Asked) : Type 0 where
   pub lower-length : (w : ℕ) (l : List Float) → length l ≡ 4 * w → length (q .geometry .lowerNet l) ≡ 4 * w
   pub upper-length : (w : ℕ) (l : List Float) → length l ≡ 4 * w → length (q .geometry .upperNet l) ≡ 4 * w
 
--- ---- the nodes that the memory holds: slot k has node k's nets, ranges and depth
+-- ---- the nodes that the memory holds: slot k has node k's nets, ranges and depths
 pub record Stored (q : Asked) (u : Memory) (k : ℕ) (n : Node (shape q)) : Type 0 where
   pub net1 : block (4 * q .width1) k (u .nets1) ≡ netOf1 q n
   pub net2 : block (4 * q .width2) k (u .nets2) ≡ netOf2 q n
   pub ranges : block 4 k (u .ranges) ≡ rangesOf q n
-  pub depth : block 1 k (u .depths) ≡ depthOf q n
+  pub depth : block 2 k (u .depths) ≡ depthOf q n
 
 -- the top of n ∷ r is node number length r, from the bottom
 abbrev pub AllStored : (q : Asked) → Memory → List (Node (shape q)) → Type 0
@@ -101,6 +101,10 @@ GoodAnswer q m (stepped a) = Unit {0}
 GoodAnswer q m (judged a) = Unit {0}
 GoodAnswer q m (reported a o) = GoodReported q m a o
 
+-- each line of a node was halved at most 32 times
+abbrev pub DepthsFit : (q : Asked) → Node (shape q) → Type 0
+DepthsFit q n = (depth1 (shape q) n ≤ 32) × (depth2 (shape q) n ≤ 32)
+
 -- ---- after the list: m is the search that the rules make, r what the calls left
 pub record After (q : Asked) (m : Search (shape q)) (r : Ran) : Type 0 where
   -- each pair of stations lies in a piece pair set apart by its boxes, a settled node, a region given up or a waiting node
@@ -110,6 +114,10 @@ pub record After (q : Asked) (m : Search (shape q)) (r : Ran) : Type 0 where
   pub atMost : r .state .tally .waiting ≤ r .state .tally .pairs + 64
   -- the nodes settled by box, plane and line sum to settled
   pub tags : r .state .tally .settled ≡ r .state .tally .boxes + r .state .tally .planes + r .state .tally .lines
+  -- "two depths, each at most 32": of the nodes that wait, that were given up and that were settled
+  pub waitingDepths : All (DepthsFit q) (m .stack)
+  pub givenDepths : All (DepthsFit q) (m .given)
+  pub settledDepths : All (λ (e : Settling (shape q)). DepthsFit q (e .node)) (m .settled)
   -- each split spends one of S × P, and nothing else does; each visit splits, settles or gives up a node, but the one that ends the search at no allowance
   pub allowance : r .state .tally .splits + r .state .tally .unspent ≡ allowanceOf (r .state .tally)
   pub visited : r .state .tally .visits ≡ r .state .tally .splits + r .state .tally .settled + r .state .tally .given + cond (r .state .tally .stopped) 1 0

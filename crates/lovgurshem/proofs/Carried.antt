@@ -4,10 +4,11 @@ use mathlib.Core.Bool.{Bool, true, false, _&&_, cond}
 use mathlib.Core.List.{List}
 use Prim.Native.Nat.{ℕ, zero, suc, _+_, _*_}
 use borrow.Author.Tests.{le-leb}
-use lib.Dec.{T, leb}
+use lib.Dec.{T}
 use lib.Ieee.{Float, binary64, fits}
 use Rattle.floats.specs.Stations.{Piece}
-use Rattle.machine.specs.Machine.{limit}
+use Rattle.verdicts.specs.declared.Choice.{Choice}
+use Rattle.verdicts.specs.declared.Choice.the-variants.{First, Second, Neither}
 use Rattle.verdicts.specs.declared.Verdict.{Verdict}
 use Rattle.verdicts.specs.declared.Verdict.the-variants.{Settled, Split, Unseparated}
 use Rattle.lines.specs.Lines.{Question}
@@ -16,6 +17,7 @@ use Rattle.lines.specs.Admit.{admitOf}
 use Rattle.questions.specs.Questions.{askOf}
 use Rattle.terms.specs.declared.Terms.{Terms}
 use Rattle.states.specs.declared.State.{State}
+use Rattle.states.specs.declared.Depths.{Depths}
 use Rattle.states.specs.States.{Memory, sizes, needed, enough, depthAt, isSearch, over}
 use Rattle.nodes.specs.Geometry.{Geometry}
 use Rattle.nodes.specs.Nets.{geometry}
@@ -23,7 +25,7 @@ use Rattle.search.specs.declared.Stepped.{Stepped}
 use Rattle.search.specs.declared.Stepped.the-variants.{Next, Ended, NoRoom}
 use Rattle.search.specs.declared.Own.{Own}
 use Rattle.search.specs.declared.Own.the-variants.{Is, Ended as OwnEnded, NoRoom as OwnNoRoom}
-use Rattle.search.specs.Steps.{Stepping, stepping, part1, part2, divideAt, actOn, stepDef, ownDef}
+use Rattle.search.specs.Steps.{Stepping, stepping, part1, part2, choiceAt, splitAt, divideAt, actOn, stepDef, ownDef}
 use Rattle.search.specs.Runs.{carriedOut, ownStepDef, turned, runFor, runDef}
 use Rattle.opening.specs.declared.Opened.{Opened}
 use Rattle.opening.specs.declared.Opened.the-variants.{Open, BadLine, BadDatum, BadQuestion, NoRoom as NoOpenRoom}
@@ -49,15 +51,21 @@ fixedIn NoRoom g = g
 
 module _ (G : Geometry) where
   module _ (x : State) (u : Memory) where
-    divide-fixed : (b : Bool) (s k d : ℕ) (p q : Piece) → fixedIn (divideAt G b s k x u p q d .answer) (fixed x) ≡ fixed x
-    divide-fixed true s k d p q = refl
-    divide-fixed false zero k d p q = refl
-    divide-fixed false (suc s) k d p q = refl
+    split-fixed : (b : Bool) (s k : ℕ) (d : Depths) (p q : Piece) → fixedIn (splitAt G b s k x u p q d .answer) (fixed x) ≡ fixed x
+    split-fixed b zero k d p q = refl
+    split-fixed b (suc s) k d p q = refl
+
+    divide-fixed : (c : Choice) (s k : ℕ) (d : Depths) (p q : Piece) → fixedIn (divideAt G c s k x u p q d .answer) (fixed x) ≡ fixed x
+    divide-fixed First s k d p q = split-fixed false s k d p q
+    divide-fixed Second s k d p q = split-fixed true s k d p q
+    divide-fixed Neither s k d p q = refl
 
     act-fixed : (n : ℕ) (v : Verdict) → fixedIn (actOn G n v x u .answer) (fixed x) ≡ fixed x
     act-fixed zero v = refl
     act-fixed (suc k) (Settled by) = refl
-    act-fixed (suc k) Split = divide-fixed (leb limit (depthAt (u .depths) k)) (x .tally .unspent) k (depthAt (u .depths) k) (part1 x u k) (part2 x u k)
+    act-fixed (suc k) Split =
+        let d = depthAt (u .depths) k in
+        divide-fixed (choiceAt G (part1 x u k) (part2 x u k) d) (x .tally .unspent) k d (part1 x u k) (part2 x u k)
     act-fixed (suc k) Unseparated = refl
 
     step-fixed : (v : Verdict) → fixedIn (stepDef G x u v .answer) (fixed x) ≡ fixed x

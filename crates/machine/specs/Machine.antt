@@ -2,11 +2,13 @@
 -- so that the float search and a whole-number search are two shapes of one machine. Definitions only.
 use mathlib.Core.List.{List, [], _∷_, _++_, reverse}
 use mathlib.Core.Bool.{Bool, true, false, _||_, cond}
-use Prim.Native.Nat.{ℕ, zero, suc, _+_}
+use Prim.Native.Nat.{ℕ, zero, suc, _+_, _≤_}
 use lib.Dec.{leb}
 use lib.ListN.{length}
 use Rattle.verdicts.specs.declared.Test.{Test}
 use Rattle.verdicts.specs.declared.Test.the-variants.{Box, Plane, Line}
+use Rattle.verdicts.specs.declared.Choice.{Choice}
+use Rattle.verdicts.specs.declared.Choice.the-variants.{First, Second, Neither}
 use Rattle.verdicts.specs.declared.Verdict.{Verdict}
 use Rattle.verdicts.specs.declared.Verdict.the-variants.{Settled, Split, Unseparated}
 
@@ -19,10 +21,22 @@ pub record Shape : Type 1 where
   -- the boxes are apart by the gap; the second line is the one to halve
   pub apart : Part → Part → Bool
   pub second : Part → Part → Bool
+  -- the most halvings of one line between its piece and a node
+  pub limit : ℕ
 
--- the most halvings between a pair of pieces and a node
-abbrev pub limit : ℕ
-limit = 64
+-- "If the line chosen by box size is at 32, the other is halved; with both at 32 the node is given up": which line is halved, by the boxes' choice (`second`: the second line) and by whether the first and the second line are at the limit
+abbrev pub choose : Bool → Bool → Bool → Choice
+choose second end1 end2 = cond end1 (cond end2 Neither Second) (cond end2 First (cond second Second First))
+
+abbrev pub isSecond : Choice → Bool
+isSecond First = false
+isSecond Second = true
+isSecond Neither = false
+
+abbrev pub isNeither : Choice → Bool
+isNeither First = false
+isNeither Second = false
+isNeither Neither = true
 
 -- A place on one line: one of its pieces, and the halves taken of it, the last first (true: the upper half).
 pub record Spot (S : Shape) : Type 0 where
@@ -81,8 +95,23 @@ module _ (S : Shape) where
   abbrev pub partOf : Spot S → S .Part
   partOf x = descend (x .piece) (x .halves)
 
-  abbrev pub depth : Node S → ℕ
-  depth n = length (n .a .halves) + length (n .b .halves)
+  -- "A node shall carry two depths": how often each line was halved; at the limit a line is halved no more
+  abbrev pub depth1 : Node S → ℕ
+  depth1 n = length (n .a .halves)
+
+  abbrev pub depth2 : Node S → ℕ
+  depth2 n = length (n .b .halves)
+
+  abbrev pub end1 : Node S → Bool
+  end1 n = leb (S .limit) (depth1 n)
+
+  abbrev pub end2 : Node S → Bool
+  end2 n = leb (S .limit) (depth2 n)
+
+  -- "each at most 32"
+  pub record Shallow (n : Node S) : Type 0 where
+    pub first : depth1 n ≤ S .limit
+    pub second : depth2 n ≤ S .limit
 
   abbrev pub InNode : S .Station → S .Station → Node S → Type 0
   InNode s t n = S .Holds (partOf (n .a)) s × S .Holds (partOf (n .b)) t
@@ -111,8 +140,8 @@ module _ (S : Shape) where
   child true u n = record { a = n .a; b = deeper u (n .b) }
   child false u n = record { a = deeper u (n .a); b = n .b }
 
-  abbrev pub larger : Node S → Bool
-  larger n = S .second (partOf (n .a)) (partOf (n .b))
+  abbrev pub choiceOf : Node S → Choice
+  choiceOf n = choose (S .second (partOf (n .a)) (partOf (n .b))) (end1 n) (end2 n)
 
   abbrev pub none : List (Node S) → Bool
   none [] = true
@@ -148,13 +177,12 @@ module _ (S : Shape) where
         own = notSettled;
       }
 
-  -- a split: at the depth limit, at no allowance, and otherwise
-  abbrev pub divide : Bool → ℕ → Node S → List (Node S) → Search S → Search S
-  divide true u n r m = giveUp n r m
-  divide false zero n r m = stopWith (m .stack) m
-  divide false (suc u) n r m =
+  -- a split along the second line (true) or the first, with so much allowance: at none the node stays, and the search ends; else its halves are put in its place, the lower on top
+  abbrev pub splitAlong : Bool → ℕ → Node S → List (Node S) → Search S → Search S
+  splitAlong second zero n r m = stopWith (m .stack) m
+  splitAlong second (suc u) n r m =
       record {
-        stack = child (larger n) false n ∷ child (larger n) true n ∷ r;
+        stack = child second false n ∷ child second true n ∷ r;
         settled = m .settled;
         given = m .given;
         visits = suc (m .visits);
@@ -163,6 +191,12 @@ module _ (S : Shape) where
         stopped = m .stopped;
         own = notSettled;
       }
+
+  -- "with both at 32 the node is given up and nothing is spent"
+  abbrev pub divide : Choice → ℕ → Node S → List (Node S) → Search S → Search S
+  divide First u n r m = splitAlong false u n r m
+  divide Second u n r m = splitAlong true u n r m
+  divide Neither u n r m = giveUp n r m
 
   -- what a verdict for the top node does; nothing where no node waits
   abbrev pub onTop : Verdict → List (Node S) → Search S → Search S
@@ -180,7 +214,7 @@ module _ (S : Shape) where
         stopped = m .stopped;
         own = notSettled;
       }
-  onTop Split (n ∷ r) m = divide (leb limit (depth n)) (m .unspent) n r m
+  onTop Split (n ∷ r) m = divide (choiceOf n) (m .unspent) n r m
   onTop Unseparated (n ∷ r) m = giveUp n r m
 
   abbrev pub advance : Verdict → Search S → Search S

@@ -1,21 +1,27 @@
 -- What the writes of a step make of each slice. Assumes nothing.
-use mathlib.Core.Path.{_≡_, refl, ap, _∙_}
-use mathlib.Core.Bool.{Bool, true, false}
+use mathlib.Core.Path.{_≡_, refl, ap, sym, _∙_}
+use mathlib.Core.Bool.{Bool, true, false, cond}
 use mathlib.Core.List.{List, [], _∷_, _++_}
-use Prim.Native.Nat.{ℕ, suc, _+_, _*_, _≤_}
-use native.Mathlib.Nat.{add-zero, mul-one}
+use Prim.Native.Nat.{ℕ, _+_, _*_, _≤_, _<_}
+use native.Mathlib.Nat.{add-zero}
 use native.Mathlib.Numerals.{add-one}
 use native.Mathlib.Omega.{arith}
 use lib.ListN.{length, getD, set}
 use lib.Ieee.{Float, nan}
+use borrow.Author.Tests.{le-leb, lt-leb}
 use Rattle.lists.specs.Parts.{block, patch}
-use Rattle.lists.proofs.Parts.{block-get, patch-twice, two-stores}
+use Rattle.lists.proofs.Loops.{four}
+use Rattle.lists.proofs.Parts.{block-get, patch-twice}
 use Rattle.floats.specs.Floats.{middle}
 use Rattle.verdicts.specs.declared.Test.{Test}
 use Rattle.verdicts.specs.declared.Test.the-variants.{Box, Plane, Line}
-use Rattle.machine.specs.Machine.{isTag}
+use Rattle.verdicts.specs.declared.Choice.{Choice}
+use Rattle.verdicts.specs.declared.Choice.the-variants.{First, Second, Neither}
+use Rattle.machine.specs.Machine.{isTag, choose}
 use Rattle.regions.specs.declared.Region.{Region}
 use Rattle.states.specs.declared.Tally.{Tally}
+use Rattle.states.specs.declared.Depths.{Depths}
+use Rattle.states.specs.States.{depthsOf, pairOf, deepened, atEnd1, atEnd2}
 use Rattle.nodes.specs.Moves.{settledTally}
 use Rattle.nodes.specs.Geometry.{Corners, regionWith}
 use Rattle.nodes.specs.Writes.{rangesHalved, rangesAfter, depthsAfter}
@@ -82,8 +88,9 @@ ranges-are : (b : Bool) (l l1 l2 u v : List Float) (k : ℕ) → (k + 2) * 4 ≤
 ranges-are b l l1 l2 u v k h lu lv e f g =
     f ∙ ap (λ (z : List Float). patch z (k * 4 + 4) v) e ∙ patch-twice l (k * 4) (k * 4 + 4) u v (omega arith) (omega arith) ∙ ap (patch l (k * 4)) g
 
-pub depths-are : (l : List ℕ) (k d : ℕ) → k + 2 ≤ length l → set (set l k (d + 1)) (k + 1) (d + 1) ≡ depthsAfter d k l
-depths-are l k d h = rw (add-one d, two-stores l k (suc d) (suc d) h, mul-one k) refl
+pub depths-are : (l : List ℕ) (k : ℕ) (second : Bool) (d e : Depths) → (k + 2) * 2 ≤ length l → e ≡ deepened second d
+    → set (set (set (set l (k * 2) (e .first)) (k * 2 + 1) (e .second)) (k * 2 + 2) (e .first)) (k * 2 + 3) (e .second) ≡ depthsAfter second d k l
+depths-are l k second d e h f = four l (k * 2) (e .first) (e .second) (e .first) (e .second) (omega arith) ∙ ap (λ (x : Depths). patch l (k * 2) (pairOf x ++ pairOf x)) f
 
 pub ranges-second : (l l1 l2 : List Float) (k : ℕ) (mid : Float) → (k + 2) * 4 ≤ length l → mid ≡ middle (getD l (k * 4 + 2) nan) (getD l (k * 4 + 3) nan)
     → l1 ≡ patch l (k * 4) (getD l (k * 4) nan ∷ getD l (k * 4 + 1) nan ∷ mid ∷ getD l (k * 4 + 3) nan ∷ [])
@@ -145,3 +152,28 @@ module _ (k : ℕ) (t : Tally) (by : Test) where
 
   pub by-line : by ≡ Line → settledWith k t (t .boxes) (t .planes) (t .lines + 1) ≡ settledTally by k t
   by-line e = counted _ _ _ (rw e (omega arith)) (rw e (omega arith)) (rw e (omega arith))
+
+-- ---- which line is halved
+pub both-full : (s : Bool) (d : Depths) → 32 ≤ d .first → 32 ≤ d .second → Neither ≡ choose s (atEnd1 d) (atEnd2 d)
+both-full s d h k = rw (le-leb 32 (d .first) h, le-leb 32 (d .second) k) refl
+
+pub first-full : (s : Bool) (d : Depths) → 32 ≤ d .first → d .second < 32 → Second ≡ choose s (atEnd1 d) (atEnd2 d)
+first-full s d h k = rw (le-leb 32 (d .first) h, lt-leb 32 (d .second) k) refl
+
+pub second-full : (s : Bool) (d : Depths) → d .first < 32 → 32 ≤ d .second → First ≡ choose s (atEnd1 d) (atEnd2 d)
+second-full s d h k = rw (lt-leb 32 (d .first) h, le-leb 32 (d .second) k) refl
+
+pub neither-full : (s b : Bool) (d : Depths) → b ≡ s → d .first < 32 → d .second < 32 → cond b Second First ≡ choose s (atEnd1 d) (atEnd2 d)
+neither-full s b d e h k = rw (lt-leb 32 (d .first) h, lt-leb 32 (d .second) k) (ap (λ (t : Bool). cond t Second First) e)
+
+pub as-second : (b : Bool) {c : Choice} → b ≡ true → cond b Second First ≡ c → Second ≡ c
+as-second b e f = sym (ap (λ (t : Bool). cond t Second First) e) ∙ f
+
+pub as-first : (b : Bool) {c : Choice} → b ≡ false → cond b Second First ≡ c → First ≡ c
+as-first b e f = sym (ap (λ (t : Bool). cond t Second First) e) ∙ f
+
+pub deeper-second : (b : Bool) (d : Depths) → b ≡ true → depthsOf (d .first) (d .second + 1) ≡ deepened b d
+deeper-second b d e = rw (e, add-one (d .second)) refl
+
+pub deeper-first : (b : Bool) (d : Depths) → b ≡ false → depthsOf (d .first + 1) (d .second) ≡ deepened b d
+deeper-first b d e = rw (e, add-one (d .first)) refl

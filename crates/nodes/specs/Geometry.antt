@@ -8,6 +8,7 @@ use Rattle.verdicts.specs.declared.Verdict.{Verdict}
 use Rattle.floats.specs.Floats.{middle}
 use Rattle.machine.specs.Machine.{Shape, Node, partOf}
 use Rattle.regions.specs.declared.Region.{Region}
+use Rattle.states.specs.States.{limit}
 
 -- the lowest and the highest corner of a box
 pub record Corners : Type 0 where
@@ -44,6 +45,7 @@ floats G gap = record {
   upper = upperHalf G;
   apart = λ p q. G .boxesApart gap (p .net) (q .net);
   second = λ p q. G .secondHalved (p .net) (q .net);
+  limit = limit;
 }
 
 -- `region` of the Rust: a node's ranges, and the box of both its nets

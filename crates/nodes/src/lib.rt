@@ -5,6 +5,8 @@ ghost use Prim.Native.Nat.{_+_, _-_, _*_, _≤_, _<_};
 ghost use lib.ListN.{length};
 ghost use Rattle.lists.specs.Parts.{block, patch};
 ghost use Rattle.boxes.specs.Boxes.{secondHalved};
+ghost use Rattle.machine.specs.Machine.{choose, isSecond, isNeither};
+ghost use Rattle.states.specs.States.{deepened, atEnd1, atEnd2};
 ghost use Rattle.regions.specs.Regions.{flat};
 ghost use Rattle.nodes.specs.Geometry.{regionWith};
 ghost use Rattle.nodes.specs.Nets.{bothBoxes};
@@ -12,8 +14,10 @@ ghost use Rattle.nodes.specs.Moves.{settledTally, givenTally, stoppedTal
 ghost use Rattle.nodes.specs.Writes.{slotsAfter, rangesAfter, depthsAfter, Above};
 use boxes::Aabb;
 use regions::Region;
+use states::Depths;
 use states::State;
 use states::Tally;
+use verdicts::Choice;
 use verdicts::Test;
 
 // What a step does with the node on top.
@@ -162,13 +166,73 @@ fn split_ranges(ranges: &mut [f64], k: usize, second: bool)
     lists::put4(ranges, at + 4, a0, mid, b0, b1);
 }
 
-// Both halves are one deeper.
-fn deepen(depths: &mut [u8], k: usize, depth: u8)
-    requires { ⌜ (k + 2 ≤ length (now depths)) × (depth < 64) ⌝ }
-    ensures { λ r. ⌜ now (depths .exit) ≡ depthsAfter depth k (now (depths .entry)) ⌝ }
+// Which line is halved: the one with the larger box, the second where they are equal; the other where that line is at the limit; neither where both are.
+pub fn choose(a: Aabb, b: Aabb, depth: Depths) -> Choice
+    ensures { λ r. ⌜ r ≡ choose (secondHalved a b) (atEnd1 depth) (atEnd2 depth) ⌝ }
 {
-    depths[k] = depth + 1;
-    depths[k + 1] = depth + 1;
+    if depth.first >= 32 {
+        if depth.second >= 32 {
+            return Choice::Neither;
+        }
+        return Choice::Second;
+    }
+    if depth.second >= 32 {
+        return Choice::First;
+    }
+    if boxes::second_halved(a, b) {
+        return Choice::Second;
+    }
+    Choice::First
+}
+
+pub fn is_second(c: Choice) -> bool
+    ensures { λ r. ⌜ r ≡ isSecond c ⌝ }
+{
+    match c {
+        Choice::First => false,
+        Choice::Second => true,
+        Choice::Neither => false,
+    }
+}
+
+pub fn is_neither(c: Choice) -> bool
+    ensures { λ r. ⌜ r ≡ isNeither c ⌝ }
+{
+    match c {
+        Choice::First => false,
+        Choice::Second => false,
+        Choice::Neither => true,
+    }
+}
+
+// One deeper on one line.
+fn deeper(depth: Depths, second: bool) -> Depths
+    requires { ⌜ (depth .first ≤ 32) × (depth .second ≤ 32) ⌝ }
+    ensures { λ r. ⌜ r ≡ deepened second depth ⌝ }
+{
+    if second {
+        return Depths {
+            first: depth.first,
+            second: depth.second + 1,
+        };
+    }
+    Depths {
+        first: depth.first + 1,
+        second: depth.second,
+    }
+}
+
+// Both halves are one deeper on the line that is halved.
+fn deepen(depths: &mut [u8], k: usize, depth: Depths, second: bool)
+    requires { ⌜ ((k + 2) * 2 ≤ length (now depths)) × (depth .first ≤ 32) × (depth .second ≤ 32) ⌝ }
+    ensures { λ r. ⌜ now (depths .exit) ≡ depthsAfter second depth k (now (depths .entry)) ⌝ }
+{
+    let d = deeper(depth, second);
+    let at = k * 2;
+    depths[at] = d.first;
+    depths[at + 1] = d.second;
+    depths[at + 2] = d.first;
+    depths[at + 3] = d.second;
 }
 
 // Node k is given up: its region goes to the raw list.
@@ -183,13 +247,12 @@ pub fn give_up(st: State, k: u32, a: Aabb, b: Aabb, ranges: &[f64], raw: &mut [f
     );
 }
 
-// Node k is halved along the line with the larger box, along the second where they are equal.
+// Node k is halved along its second line, or along its first.
 pub fn halve(
     st: State,
     k: u32,
-    depth: u8,
-    a: Aabb,
-    b: Aabb,
+    depth: Depths,
+    second: bool,
     nets1: &mut [f64],
     nets2: &mut [f64],
     ranges: &mut [f64],
@@ -197,16 +260,15 @@ pub fn halve(
 )
     requires { ⌜ Above st k
         (record { nets1 = length (now nets1); nets2 = length (now nets2); ranges = length (now ranges); depths = length (now depths); raw = 0 }) ⌝ }
-    requires { ⌜ depth < 64 ⌝ }
-    ensures { λ r. ⌜ (now (nets1 .exit) ≡ slotsAfter (not (secondHalved a b)) (st .width1) k (now (nets1 .entry)))
-        × (now (nets2 .exit) ≡ slotsAfter (secondHalved a b) (st .width2) k (now (nets2 .entry)))
-        × (now (ranges .exit) ≡ rangesAfter (secondHalved a b) k (now (ranges .entry)))
-        × (now (depths .exit) ≡ depthsAfter depth k (now (depths .entry))) ⌝ }
+    requires { ⌜ (depth .first ≤ 32) × (depth .second ≤ 32) ⌝ }
+    ensures { λ r. ⌜ (now (nets1 .exit) ≡ slotsAfter (not second) (st .width1) k (now (nets1 .entry)))
+        × (now (nets2 .exit) ≡ slotsAfter second (st .width2) k (now (nets2 .entry)))
+        × (now (ranges .exit) ≡ rangesAfter second k (now (ranges .entry)))
+        × (now (depths .exit) ≡ depthsAfter second depth k (now (depths .entry))) ⌝ }
 {
-    let second = boxes::second_halved(a, b);
     let at = k as usize;
     split_net(nets1, at, st.width1 as usize, !second);
     split_net(nets2, at, st.width2 as usize, second);
     split_ranges(ranges, at, second);
-    deepen(depths, at, depth);
+    deepen(depths, at, depth, second);
 }

@@ -43,14 +43,14 @@ pub few-pairs : (r n m : ℕ) → n ≤ 255 → m ≤ 255 → r ≤ n * m → r 
 few-pairs r n m h k l = let w = mul-le-mul h k in omega arith
 
 pub push-room : (x : State) (n S w1 w2 : ℕ) (gap : Float) (t : Terms) (s : Sizes) → x ≡ firstState n S w1 w2 gap t → enough (needed x) s ≡ true
-    → (n * (4 * w1) ≤ s .nets1) × (n * (4 * w2) ≤ s .nets2) × (n * 4 ≤ s .ranges) × (n ≤ s .depths)
+    → (n * (4 * w1) ≤ s .nets1) × (n * (4 * w2) ≤ s .nets2) × (n * 4 ≤ s .ranges) × (n * 2 ≤ s .depths)
 push-room x n S w1 w2 gap t s e f =
     let R = room-all (firstState n S w1 w2 gap t) s (subst (λ (y : State). enough (needed y) s ≡ true) e f) in
     let more : n ≤ n + 64 = omega arith in (
       le-trans (mul-le-mul-right (4 * w1) more) (R .nets1),
       le-trans (mul-le-mul-right (4 * w2) more) (R .nets2),
       le-trans (mul-le-mul-right 4 more) (R .ranges),
-      (let z = R .depths in omega arith),
+      le-trans (mul-le-mul-right 2 more) (R .depths),
     )
 
 module _ (S : ℕ) (gap : Float) (t : Terms) (p q : Pieces) (n1 n2 : ℕ) (u : Memory) (x : State) (n : ℕ) (en : n ≡ length (pairsFrom gap p q n2 n1 0))

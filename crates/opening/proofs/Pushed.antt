@@ -136,7 +136,7 @@ module _ (q : Question) (p1 p2 : List Float) where
 
   depths-join : (ks : List Pair) → joined (map (depthOf (searchFor q)) (map (nodeOf (q .gap) one other) ks)) ≡ depthsOf ks
   depths-join [] = refl
-  depths-join (k ∷ ks) = ap (λ (l : List ℕ). 0 ∷ l) (depths-join ks)
+  depths-join (k ∷ ks) = ap (λ (l : List ℕ). 0 ∷ 0 ∷ l) (depths-join ks)
 
   -- what `push_pairs` leaves is the memory after the opening
   pub memory-is : (u : Memory) (n1 n2 r : List Float) (d : List ℕ) → n1 ≡ patch (u .nets1) 0 (nets1Of one numbered) → n2 ≡ patch (u .nets2) 0 (nets2Of other numbered)

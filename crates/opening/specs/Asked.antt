@@ -5,7 +5,7 @@ use Prim.Native.Nat.{ℕ, _+_, _*_}
 use lib.ListN.{length}
 use lib.Ieee.{Float}
 use Rattle.lists.specs.Parts.{patch, joined}
-use Rattle.machine.specs.Machine.{Shape, Node, Search, partOf, depth, pushed, fresh, ended, tagged}
+use Rattle.machine.specs.Machine.{Shape, Node, Search, partOf, depth1, depth2, pushed, fresh, ended, tagged}
 use Rattle.regions.specs.declared.Region.{Region}
 use Rattle.verdicts.specs.declared.Test.the-variants.{Box, Plane, Line}
 use Rattle.states.specs.declared.Tally.{Tally}
@@ -116,7 +116,7 @@ abbrev pub rangesOf : (q : Asked) → Node (shape q) → List Float
 rangesOf q n = let p = partOf (shape q) (n .a) in let r = partOf (shape q) (n .b) in p .lo ∷ p .hi ∷ r .lo ∷ r .hi ∷ []
 
 abbrev pub depthOf : (q : Asked) → Node (shape q) → List ℕ
-depthOf q n = depth (shape q) n ∷ []
+depthOf q n = depth1 (shape q) n ∷ depth2 (shape q) n ∷ []
 
 abbrev pub openMemory : Asked → Memory → Memory
 openMemory q u = record {

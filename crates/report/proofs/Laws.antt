@@ -25,6 +25,7 @@ use Rattle.regions.specs.Reports.{wordFor, reportSlice}
 use Rattle.machine.proofs.Merged.{merged-length}
 use Rattle.regions.proofs.Laws.{flats-length, regions-length}
 use Rattle.states.specs.declared.State.{State}
+use Rattle.states.specs.declared.Depths.{Depths}
 use Rattle.states.specs.declared.Counts.{Counts}
 use Rattle.states.specs.States.{Memory, memory, Sizes, sizes, needed, enough, topFits, searchWith, isSearch, over, countsOf, allowanceOf, recordsOf}
 use Rattle.nodes.specs.Geometry.{Geometry}
@@ -66,11 +67,16 @@ pub left-start : (G : Geometry) (x : State) (nets1 nets2 ranges raw : List Float
 left-start G x nets1 nets2 ranges raw g = let z : g * 10 + 0 ≡ g * 10 = omega arith in sym (rw z (lib.ListN.take-append-drop (g * 10) raw))
 
 -- ---- the room of an accepted report
-few-waiting : (P n d : ℕ) → topFits P n d ≡ true → n ≤ P + 64
+few-waiting : (P n : ℕ) (d : Depths) → topFits P n d ≡ true → n ≤ P + 64
 few-waiting P zero d e = omega arith
 few-waiting P (suc n) d e =
-    let a = leb-true (suc n) (P + d) (and-first (leb (suc n) (P + d)) (leb d 64) e) in
-    let b = leb-true d 64 (and-second (leb (suc n) (P + d)) (leb d 64) e) in
+    let b1 = leb (suc n) (P + (d .first + d .second)) in
+    let b2 = leb (d .first) 32 in
+    let b3 = leb (d .second) 32 in
+    let f = and-second b1 (b2 && b3) e in
+    let a = leb-true (suc n) (P + (d .first + d .second)) (and-first b1 (b2 && b3) e) in
+    let b = leb-true (d .first) 32 (and-first b2 b3 f) in
+    let c = leb-true (d .second) 32 (and-second b2 b3 f) in
     omega arith
 
 -- n floats for the regions and k marks
@@ -83,7 +89,7 @@ pub record RoomLeft (x : State) (s : Sizes) (n k : ℕ) : Type 0 where
   pub marks : x .tally .given + x .tally .waiting ≤ k
   pub few : x .tally .pairs ≤ 65535 → x .tally .quota ≤ 65535 → x .tally .given + x .tally .waiting ≤ 4294967295
 
-pub room-left : (x : State) (d : ℕ) (s : Sizes) (n k : ℕ) → enough (needed x) s ≡ true → leb (recordsOf (x .tally) * 10) n && leb (recordsOf (x .tally)) k ≡ true
+pub room-left : (x : State) (d : Depths) (s : Sizes) (n k : ℕ) → enough (needed x) s ≡ true → leb (recordsOf (x .tally) * 10) n && leb (recordsOf (x .tally)) k ≡ true
     → searchWith (x .tally) d ≡ true → RoomLeft x s n k
 room-left x d s n k e l f =
     let b1 = topFits (x .tally .pairs) (x .tally .waiting) d in

@@ -6,6 +6,7 @@ use native.Mathlib.Omega.{arith}
 use Rattle.lists.specs.Parts.{block}
 use Rattle.verdicts.specs.declared.Verdict.{Verdict}
 use Rattle.states.specs.declared.State.{State}
+use Rattle.states.specs.declared.Depths.{Depths}
 use Rattle.states.specs.States.{Memory, sizes, needed, enough, enoughOwn, isSearch, topOf}
 use Rattle.states.specs.declared.Top.the-variants.{Ended as TopEnded, NoRoom as TopNoRoom}
 use Rattle.search.specs.declared.Stepped.the-variants.{Ended, NoRoom}
@@ -30,7 +31,7 @@ module _ (G : Geometry) (x : State) (u : Memory) where
       let o = top-refused (x .tally) b (u .depths) e .0 in
       rw o (refused (enoughOwn (needed x) (sizes u) && isSearch x u) (x .tally .waiting) (waits (x .tally) o) (λ v. step-refused G x u v b h e))
 
-  pub own-step-accepted : (r : Stepping) (v : Verdict) (k d : ℕ) → Accepted x u k d
+  pub own-step-accepted : (r : Stepping) (v : Verdict) (k : ℕ) (d : Depths) → Accepted x u k d
       → v ≡ G .clearing (x .gap) (block (4 * x .width1) k (u .nets1)) (block (4 * x .width2) k (u .nets2)) → r ≡ stepDef G x u v → r ≡ ownStepDef G x u
   own-step-accepted r v k d A h f =
       let at : k ≡ x .tally .waiting - 1 = (let t = A .top in omega arith) in

@@ -5,12 +5,13 @@ use mathlib.Core.Bool.{Bool, true, false, _&&_, _||_, cond, true≢false, false�
 use Prim.Native.Nat.{ℕ, zero, suc, _+_, _*_, _≤_, _<_}
 use native.Mathlib.Numerals.{add-one}
 use native.Mathlib.Omega.{arith}
-use lib.Dec.{leb}
 use Rattle.floats.specs.Stations.{Piece}
+use Rattle.verdicts.specs.declared.Choice.{Choice}
+use Rattle.verdicts.specs.declared.Choice.the-variants.{First, Second, Neither}
 use Rattle.verdicts.specs.declared.Verdict.{Verdict}
 use Rattle.verdicts.specs.declared.Verdict.the-variants.{Settled, Split, Unseparated}
-use Rattle.machine.specs.Machine.{limit}
 use Rattle.states.specs.declared.State.{State}
+use Rattle.states.specs.declared.Depths.{Depths}
 use Rattle.states.specs.States.{Memory, sizes, needed, enough, depthAt, isSearch, over}
 use Rattle.search.specs.declared.Stepped.{Stepped}
 use Rattle.search.specs.declared.Stepped.the-variants.{Next, Ended, NoRoom}
@@ -18,7 +19,7 @@ use Rattle.search.specs.declared.Own.{Own}
 use Rattle.search.specs.declared.Own.the-variants.{Is, Ended as OwnEnded, NoRoom as OwnNoRoom}
 use Rattle.nodes.specs.Geometry.{Geometry}
 use Rattle.nodes.specs.Moves.{settledState, givenState, stoppedState, halvedState}
-use Rattle.search.specs.Steps.{Stepping, stepping, part1, part2, divideAt, actOn, stepDef, ownDef}
+use Rattle.search.specs.Steps.{Stepping, stepping, part1, part2, choiceAt, splitAt, divideAt, actOn, stepDef, ownDef}
 use Rattle.search.specs.Runs.{carriedOut, ownStepDef, turned, runFor}
 use Rattle.states.proofs.Tests.{waits}
 
@@ -37,16 +38,22 @@ told : (x y z : State) → Falls x z → Next z ≡ Next y → Falls x y
 told x y z f e = let g : z ≡ y = cc in subst (Falls x) g f
 
 module _ (G : Geometry) (x : State) (u : Memory) (y : State) where
-  divide-falls : (b : Bool) (s k d : ℕ) (p q : Piece) → s ≡ x .tally .unspent → suc k ≡ x .tally .waiting → divideAt G b s k x u p q d .answer ≡ Next y → Falls x y
-  divide-falls true s k d p q es ek e = told x y (givenState k x) (inl (omega arith)) e
-  divide-falls false zero k d p q es ek e = told x y (stoppedState x) (inr (omega arith, refl)) e
-  divide-falls false (suc s) k d p q es ek e = told x y (halvedState k s x) (inl (omega arith)) e
+  split-falls : (b : Bool) (s k : ℕ) (d : Depths) (p q : Piece) → s ≡ x .tally .unspent → suc k ≡ x .tally .waiting → splitAt G b s k x u p q d .answer ≡ Next y → Falls x y
+  split-falls b zero k d p q es ek e = told x y (stoppedState x) (inr (omega arith, refl)) e
+  split-falls b (suc s) k d p q es ek e = told x y (halvedState k s x) (inl (omega arith)) e
+
+  divide-falls : (c : Choice) (s k : ℕ) (d : Depths) (p q : Piece) → s ≡ x .tally .unspent → suc k ≡ x .tally .waiting → divideAt G c s k x u p q d .answer ≡ Next y → Falls x y
+  divide-falls First s k d p q es ek e = split-falls false s k d p q es ek e
+  divide-falls Second s k d p q es ek e = split-falls true s k d p q es ek e
+  divide-falls Neither s k d p q es ek e = told x y (givenState k x) (inl (omega arith)) e
 
   act-falls : (n : ℕ) (v : Verdict) → n ≡ x .tally .waiting → actOn G n v x u .answer ≡ Next y → Falls x y
   act-falls zero v en e = never Ended y (inl refl) e
   act-falls (suc k) (Settled by) en e = told x y (settledState by k x) (inl (omega arith)) e
   act-falls (suc k) Unseparated en e = told x y (givenState k x) (inl (omega arith)) e
-  act-falls (suc k) Split en e = divide-falls (leb limit (depthAt (u .depths) k)) (x .tally .unspent) k (depthAt (u .depths) k) (part1 x u k) (part2 x u k) refl en e
+  act-falls (suc k) Split en e =
+      let d = depthAt (u .depths) k in
+      divide-falls (choiceAt G (part1 x u k) (part2 x u k) d) (x .tally .unspent) k d (part1 x u k) (part2 x u k) refl en e
 
   step-falls : (v : Verdict) → stepDef G x u v .answer ≡ Next y → Falls x y
   step-falls v e = go (over (x .tally)) (enough (needed x) (sizes u) && isSearch x u) e

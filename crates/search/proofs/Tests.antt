@@ -8,6 +8,7 @@ use lib.ListN.{length}
 use Rattle.lists.specs.Parts.{block}
 use Rattle.verdicts.specs.declared.Verdict.{Verdict}
 use Rattle.states.specs.declared.State.{State}
+use Rattle.states.specs.declared.Depths.{Depths}
 use Rattle.states.specs.States.{Memory, Sizes, sizes, needed, enough, enoughOwn, depthAt, topDepth, searchWith, isSearch, over, topOf, allowanceOf, recordsOf}
 use Rattle.states.proofs.Tests.{waits, sound, slots-fit, room-own, room-all, top-slot, top-ended, top-refused, top-node}
 use Rattle.states.specs.declared.Top.the-variants.{Node, Ended as TopEnded, NoRoom as TopNoRoom}
@@ -35,8 +36,8 @@ module _ (G : Geometry) (x : State) (u : Memory) where
       go zero w h = absurd (omega arith)
       go (suc k) w h = let e : suc k - 1 ≡ k = omega arith in ap Is (rw e at h)
 
--- the own verdict of node k, the top, at the depth d
-module _ (x : State) (u : Memory) (b : Bool) (k d : ℕ) (h : b ≡ enoughOwn (needed x) (sizes u)) (e : Node k d ≡ topOf (x .tally) b (u .depths)) where
+-- the own verdict of node k, the top, at the depths d
+module _ (x : State) (u : Memory) (b : Bool) (k : ℕ) (d : Depths) (h : b ≡ enoughOwn (needed x) (sizes u)) (e : Node k d ≡ topOf (x .tally) b (u .depths)) where
   pub judged-slots : ((k + 1) * (4 * x .width1) ≤ length (u .nets1)) × ((k + 1) * (4 * x .width2) ≤ length (u .nets2))
   judged-slots =
       let t = top-node (x .tally) b (u .depths) k d e in
@@ -53,14 +54,15 @@ module _ (x : State) (u : Memory) (b : Bool) (k d : ℕ) (h : b ≡ enoughOwn (n
 
 -- ---- a step
 -- an accepted step has room; the two bounds are those of the state's 16-bit fields
-pub room : (x : State) (d : ℕ) (s : Sizes) → x .tally .pairs ≤ 65535 → x .tally .quota ≤ 65535 → over (x .tally) ≡ false → enough (needed x) s ≡ true → searchWith (x .tally) d ≡ true
+pub room : (x : State) (d : Depths) (s : Sizes) → x .tally .pairs ≤ 65535 → x .tally .quota ≤ 65535 → over (x .tally) ≡ false → enough (needed x) s ≡ true → searchWith (x .tally) d ≡ true
     → Room x (x .tally .waiting - 1) d s
 room x d s hp hq o e f =
     let w = waits (x .tally) o in
     let S = sound (x .tally) d w f in
     let R = room-all x s e in
     let t = S .top in
-    let dd = S .deep in
+    let d1 = S .deep1 in
+    let d2 = S .deep2 in
     let bal = S .balance in
     let all = S .allowance in
     let see = S .seen in
@@ -72,32 +74,34 @@ room x d s hp hq o e f =
       nets1 = slots-fit (x .tally .pairs) (x .tally .waiting - 1 + 1) (4 * x .width1) (s .nets1) k1 (R .nets1);
       nets2 = slots-fit (x .tally .pairs) (x .tally .waiting - 1 + 1) (4 * x .width2) (s .nets2) k1 (R .nets2);
       ranges = slots-fit (x .tally .pairs) (x .tally .waiting - 1 + 1) 4 (s .ranges) k1 (R .ranges);
-      depths = (let z = slots-fit (x .tally .pairs) (x .tally .waiting - 1 + 1) 1 (s .depths) k1 (R .depths) in omega arith);
+      depths = slots-fit (x .tally .pairs) (x .tally .waiting - 1 + 1) 2 (s .depths) k1 (R .depths);
       raw = le-trans (mul-le-mul-right 10 g1) (R .raw);
       closed = omega arith;
       tags = S .tags;
       spent = omega arith;
       steps = omega arith;
-      above = λ (h : d < 64).
+      first = d1;
+      second = d2;
+      above = λ (h : d .first + d .second < 64).
           let k2 : x .tally .waiting - 1 + 2 ≤ x .tally .pairs + 64 = omega arith in
           record {
             nets1 = slots-fit (x .tally .pairs) (x .tally .waiting - 1 + 2) (4 * x .width1) (s .nets1) k2 (R .nets1);
             nets2 = slots-fit (x .tally .pairs) (x .tally .waiting - 1 + 2) (4 * x .width2) (s .nets2) k2 (R .nets2);
             ranges = slots-fit (x .tally .pairs) (x .tally .waiting - 1 + 2) 4 (s .ranges) k2 (R .ranges);
-            depths = (let z = slots-fit (x .tally .pairs) (x .tally .waiting - 1 + 2) 1 (s .depths) k2 (R .depths) in omega arith);
+            depths = slots-fit (x .tally .pairs) (x .tally .waiting - 1 + 2) 2 (s .depths) k2 (R .depths);
             few = omega arith;
           };
     }
 
--- what an accepted step knows of node k, the top, at the depth d
-pub record Accepted (x : State) (u : Memory) (k d : ℕ) : Type 0 where
+-- what an accepted step knows of node k, the top, at the depths d
+pub record Accepted (x : State) (u : Memory) (k : ℕ) (d : Depths) : Type 0 where
   pub runs : over (x .tally) ≡ false
   pub lent : enough (needed x) (sizes u) ≡ true
   pub sound : searchWith (x .tally) d ≡ true
   pub top : x .tally .waiting ≡ suc k
   pub depth : d ≡ topDepth (x .tally .waiting) (u .depths)
 
-pub accepted : (x : State) (u : Memory) (b : Bool) (k d : ℕ) → b ≡ enough (needed x) (sizes u) → Node k d ≡ topOf (x .tally) b (u .depths) → Accepted x u k d
+pub accepted : (x : State) (u : Memory) (b : Bool) (k : ℕ) (d : Depths) → b ≡ enough (needed x) (sizes u) → Node k d ≡ topOf (x .tally) b (u .depths) → Accepted x u k d
 accepted x u b k d h e =
     let t = top-node (x .tally) b (u .depths) k d e in
     record {
@@ -108,7 +112,7 @@ accepted x u b k d h e =
       depth = t .4;
     }
 
-module _ (x : State) (u : Memory) (k d : ℕ) (A : Accepted x u k d) where
+module _ (x : State) (u : Memory) (k : ℕ) (d : Depths) (A : Accepted x u k d) where
   pub accepted-room : x .tally .pairs ≤ 65535 → x .tally .quota ≤ 65535 → Room x k d (sizes u)
   accepted-room hp hq =
       let at : x .tally .waiting - 1 ≡ k = (let t = A .top in omega arith) in
@@ -132,5 +136,5 @@ module _ (G : Geometry) (x : State) (u : Memory) (v : Verdict) where
       let t = top-refused (x .tally) b (u .depths) e in
       rw (t .0, ap (λ (a : Bool). a && isSearch x u) (sym h) ∙ t .1) refl
 
-  pub step-accepted : (o : Stepping) (k d : ℕ) → Accepted x u k d → o ≡ actOn G (suc k) v x u → o ≡ stepDef G x u v
+  pub step-accepted : (o : Stepping) (k : ℕ) (d : Depths) → Accepted x u k d → o ≡ actOn G (suc k) v x u → o ≡ stepDef G x u v
   step-accepted o k d A h = h ∙ ap (λ (n : ℕ). actOn G n v x u) (sym (A .top)) ∙ rw (A .runs, A .lent, accepted-is x u k d A) refl

@@ -2,23 +2,25 @@
 use mathlib.Core.List.{[], _∷_, _++_}
 use mathlib.Core.Bool.{Bool, true, false, not, _&&_, cond}
 use Prim.Native.Nat.{ℕ, zero, suc, _*_}
-use lib.Dec.{leb}
 use lib.ListN.{getD}
 use lib.Ieee.{nan}
 use Rattle.floats.specs.Stations.{Piece}
 use Rattle.lists.specs.Parts.{block, patch}
 use Rattle.verdicts.specs.declared.Verdict.{Verdict}
 use Rattle.verdicts.specs.declared.Verdict.the-variants.{Settled, Split, Unseparated}
-use Rattle.machine.specs.Machine.{limit}
+use Rattle.verdicts.specs.declared.Choice.{Choice}
+use Rattle.verdicts.specs.declared.Choice.the-variants.{First, Second, Neither}
+use Rattle.machine.specs.Machine.{choose}
 use Rattle.regions.specs.Regions.{flat}
 use Rattle.states.specs.declared.State.{State}
+use Rattle.states.specs.declared.Depths.{Depths}
 use Rattle.search.specs.declared.Stepped.{Stepped}
 use Rattle.search.specs.declared.Stepped.the-variants.{Next, Ended, NoRoom}
 use Rattle.search.specs.declared.Own.{Own}
 use Rattle.search.specs.declared.Own.the-variants.{Is, Ended as OwnEnded, NoRoom as OwnNoRoom}
 use Rattle.nodes.specs.Geometry.{Geometry, lowerHalf, upperHalf, regionFor}
 use Rattle.nodes.specs.Moves.{settledState, givenState, stoppedState, halvedState}
-use Rattle.states.specs.States.{Memory, sizes, needed, enough, enoughOwn, depthAt, isSearch, over}
+use Rattle.states.specs.States.{Memory, sizes, needed, enough, enoughOwn, depthAt, pairOf, deepened, atEnd1, atEnd2, isSearch, over}
 
 -- the paper's number for each answer, 0 for one that is no refusal
 abbrev pub steppedNumber : Stepped → ℕ
@@ -57,10 +59,13 @@ halves G true true p = upperHalf G p
 halves G true false p = lowerHalf G p
 halves G false u p = p
 
--- slots k and k + 1 after a split of the node with the parts p and q, d being the new depth: the upper half is put down first, the lower on top
-abbrev pub splitMemory : Geometry → ℕ → State → Memory → Piece → Piece → ℕ → Memory
-splitMemory G k x u p q d =
-    let second = G .secondHalved (p .net) (q .net) in
+-- the line that is halved of a node with the parts p and q and the depths d
+abbrev pub choiceAt : Geometry → Piece → Piece → Depths → Choice
+choiceAt G p q d = choose (G .secondHalved (p .net) (q .net)) (atEnd1 d) (atEnd2 d)
+
+-- slots k and k + 1 after a split of that node along the second line (true) or the first: the upper half is put down first, the lower on top
+abbrev pub splitMemory : Geometry → Bool → ℕ → State → Memory → Piece → Piece → Depths → Memory
+splitMemory G second k x u p q d =
     let p0 = halves G (not second) true p in
     let p1 = halves G (not second) false p in
     let q0 = halves G second true q in
@@ -69,8 +74,7 @@ splitMemory G k x u p q d =
       nets1 = patch (u .nets1) (k * (4 * x .width1)) (p0 .net ++ p1 .net);
       nets2 = patch (u .nets2) (k * (4 * x .width2)) (q0 .net ++ q1 .net);
       ranges = patch (u .ranges) (k * 4) ((p0 .lo ∷ p0 .hi ∷ q0 .lo ∷ q0 .hi ∷ []) ++ (p1 .lo ∷ p1 .hi ∷ q1 .lo ∷ q1 .hi ∷ []));
-      -- one a node
-      depths = patch (u .depths) (k * 1) ((d ∷ []) ++ (d ∷ []));
+      depths = patch (u .depths) (k * 2) (pairOf (deepened second d) ++ pairOf (deepened second d));
       raw = u .raw;
     }
 
@@ -78,17 +82,25 @@ splitMemory G k x u p q d =
 abbrev pub giveUpAt : Geometry → ℕ → State → Memory → Piece → Piece → Stepping
 giveUpAt G k x u p q = stepping (Next (givenState k x)) (givenMemory G x u p q)
 
--- Split at depth 64, at no allowance, and otherwise
-abbrev pub divideAt : Geometry → Bool → ℕ → ℕ → State → Memory → Piece → Piece → ℕ → Stepping
-divideAt G true s k x u p q d = giveUpAt G k x u p q
-divideAt G false zero k x u p q d = stepping (Next (stoppedState x)) u
-divideAt G false (suc s) k x u p q d = stepping (Next (halvedState k s x)) (splitMemory G k x u p q (suc d))
+-- a split along this line, at no allowance and otherwise
+abbrev pub splitAt : Geometry → Bool → ℕ → ℕ → State → Memory → Piece → Piece → Depths → Stepping
+splitAt G second zero k x u p q d = stepping (Next (stoppedState x)) u
+splitAt G second (suc s) k x u p q d = stepping (Next (halvedState k s x)) (splitMemory G second k x u p q d)
+
+abbrev pub divideAt : Geometry → Choice → ℕ → ℕ → State → Memory → Piece → Piece → Depths → Stepping
+divideAt G First s k x u p q d = splitAt G false s k x u p q d
+divideAt G Second s k x u p q d = splitAt G true s k x u p q d
+divideAt G Neither s k x u p q d = giveUpAt G k x u p q
 
 -- what a verdict for the top node, node k, does
 abbrev pub actOn : Geometry → ℕ → Verdict → State → Memory → Stepping
 actOn G zero v x u = stepping Ended u
 actOn G (suc k) (Settled by) x u = stepping (Next (settledState by k x)) u
-actOn G (suc k) Split x u = divideAt G (leb limit (depthAt (u .depths) k)) (x .tally .unspent) k x u (part1 x u k) (part2 x u k) (depthAt (u .depths) k)
+actOn G (suc k) Split x u =
+    let p = part1 x u k in
+    let q = part2 x u k in
+    let d = depthAt (u .depths) k in
+    divideAt G (choiceAt G p q d) (x .tally .unspent) k x u p q d
 actOn G (suc k) Unseparated x u = giveUpAt G k x u (part1 x u k) (part2 x u k)
 
 -- 20, then 19

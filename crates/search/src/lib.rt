@@ -15,6 +15,7 @@ ghost use Rattle.search.specs.Runs.{ownStepDef, runDef};
 use boxes::Aabb;
 use clearing::Judged;
 use nodes::Move;
+use states::Depths;
 use states::State;
 use states::Top;
 use verdicts::Verdict;
@@ -102,12 +103,12 @@ fn find_top(
     states::top_node(st.tally, room, depths)
 }
 
-// What a step that isn't refused does to the memory, and with node k, the top, which has this depth and these boxes.
+// What a step that isn't refused does to the memory, and with node k, the top, which has these depths and boxes.
 fn advance(
     st: State,
     v: Verdict,
     k: u32,
-    depth: u8,
+    depth: Depths,
     a: Aabb,
     b: Aabb,
     nets1: &mut [f64],
@@ -132,25 +133,35 @@ fn advance(
             Move::GivenUp
         }
         Verdict::Split => {
-            if depth >= 64 {
+            let choice = nodes::choose(a, b, depth);
+            if nodes::is_neither(choice) {
                 nodes::give_up(st, k, a, b, ranges, raw);
                 return Move::GivenUp;
             }
             if st.tally.unspent == 0 {
                 return Move::Kept;
             }
-            nodes::halve(st, k, depth, a, b, nets1, nets2, ranges, depths);
+            nodes::halve(
+                st,
+                k,
+                depth,
+                nodes::is_second(choice),
+                nets1,
+                nets2,
+                ranges,
+                depths,
+            );
             Move::Halved
         }
     }
 }
 
-// A verdict taken for node k, the top, which has this depth and these boxes: the state after it.
+// A verdict taken for node k, the top, which has these depths and boxes: the state after it.
 fn take_verdict(
     st: State,
     v: Verdict,
     k: u32,
-    depth: u8,
+    depth: Depths,
     a: Aabb,
     b: Aabb,
     nets1: &mut [f64],

@@ -26,12 +26,12 @@ use Rattle.texts.specs.Texts.{Wrote}
 use Rattle.printing.specs.Printed.{countsLength, regionLength, countLine, regionLines, refusalLine}
 use Rattle.sheet.specs.declared.Pair.{Pair}
 
--- ---- "It lends 8,112 floats a line for pieces, 7,904 a line for nets, 304 for ranges, 76 depths, 8,190 each for raw and report"; marks, "the sheet program lends 819": zeros
+-- ---- "It lends 8,112 floats a line for pieces, 7,904 a line for nets, 304 for ranges, 76 depths", now "152", "8,190 each for raw and report"; marks, "the sheet program lends 819": zeros
 unfoldable pub zeros : ℕ → List Float
 zeros n = replicate n zero64
 
 unfoldable pub zeroDepths : List ℕ
-zeroDepths = replicate 76 0
+zeroDepths = replicate 152 0
 
 -- how many regions the report's slices have room for
 abbrev pub lentRegions : ℕ

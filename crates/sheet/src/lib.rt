@@ -153,10 +153,10 @@ fn range_room() -> [f64; 304]
     [0.0f64; 304]
 }
 
-fn depth_room() -> [u8; 76]
-    ensures { λ r. ⌜ (r ≡ zeroDepths) × (length r ≡ 76) ⌝ }
+fn depth_room() -> [u8; 152]
+    ensures { λ r. ⌜ (r ≡ zeroDepths) × (length r ≡ 152) ⌝ }
 {
-    [0u8; 76]
+    [0u8; 152]
 }
 
 fn region_room() -> [f64; 8190]

@@ -1,18 +1,17 @@
 -- Products that fit, and the tests of a state over numbers. Assumes nothing.
-use mathlib.Core.Path.{_≡_, refl}
+use mathlib.Core.Path.{_≡_, refl, ap, sym, _∙_}
 use mathlib.Core.Bool.{Bool, true, false, _&&_}
 use mathlib.Core.List.{List}
 use Prim.Native.Nat.{ℕ, zero, suc, _+_, _-_, _*_, _^_, _≤_, _<_}
-use native.Mathlib.Nat.{mul-le-mul, mul-one}
+use native.Mathlib.Nat.{mul-le-mul, add-zero}
 use native.Mathlib.Omega.{arith}
-use lib.ListN.{length, getD}
-use lib.Seq.{drop-cons}
+use lib.ListN.{length, getD, List·getD-eq-default}
 use lib.Dec.{eqb}
 use borrow.Author.Tests.{le-leb, lt-leb, ne-eqb}
-use Rattle.lists.proofs.Loops.{nothing-left}
+use Rattle.lists.proofs.Parts.{block-get}
 use Rattle.states.specs.declared.Tally.{Tally}
-use Rattle.states.specs.declared.State.{State}
-use Rattle.states.specs.States.{recordsOf, topDepth, topFits, isZero, over}
+use Rattle.states.specs.declared.Depths.{Depths}
+use Rattle.states.specs.States.{recordsOf, depthsOf, topDepth, topFits, isZero, over}
 
 -- of two 16-bit numbers, or such a number and 64 more; also ten times as much
 pub product-fits : (a b : ℕ) → a ≤ 65600 → b ≤ 65600 → (a * b < 2 ^ 64) × (a * b * 10 < 2 ^ 64)
@@ -30,31 +29,37 @@ fourth-fails a b c d r e f g h = rw (e, f, g, h) refl
 pub fifth-decides : (a b c d : Bool) {r : Bool} → a ≡ true → b ≡ true → c ≡ true → d ≡ true → r ≡ (a && (b && (c && (d && r))))
 fifth-decides a b c d e f g h = rw (e, f, g, h) refl
 
-pub no-depth : (n : ℕ) (l : List ℕ) → n ≡ 0 → 0 ≡ topDepth n l
+-- past the end stands 0
+pub past-end : (l : List ℕ) (i : ℕ) → length l ≤ i → 0 ≡ getD l i 0
+past-end l i h = sym (List·getD-eq-default l 0 h)
+
+pub no-depth : (n : ℕ) (l : List ℕ) → n ≡ 0 → depthsOf 0 0 ≡ topDepth n l
 no-depth zero l e = refl
 no-depth (suc n) l e = absurd (omega arith)
 
-pub depth-in : (n : ℕ) (l : List ℕ) → (n ≡ 0 → ⊥) → n - 1 < length l → getD l (n - 1) 0 ≡ topDepth n l
-depth-in zero l e h = absurd (e refl)
-depth-in (suc n) l e h =
+pub depth-in : (n a b : ℕ) (l : List ℕ) → (n ≡ 0 → ⊥) → a ≡ getD l ((n - 1) * 2) 0 → b ≡ getD l ((n - 1) * 2 + 1) 0 → depthsOf a b ≡ topDepth n l
+depth-in zero a b l e f g = absurd (e refl)
+depth-in (suc n) a b l e f g =
     let k : suc n - 1 ≡ n = omega arith in
-    rw (k, mul-one n, drop-cons l n 0 (let g : n < length l = omega arith in g)) refl
+    let i = f ∙ ap (λ (j : ℕ). getD l (j * 2) 0) k ∙ ap (λ (j : ℕ). getD l j 0) (sym (add-zero (n * 2))) ∙ sym (block-get 2 n 0 l 0 (omega arith)) in
+    let j = g ∙ ap (λ (j : ℕ). getD l (j * 2 + 1) 0) k ∙ sym (block-get 2 n 1 l 0 (omega arith)) in
+    λ x. depthsOf (i x) (j x)
 
-pub depth-past : (n : ℕ) (l : List ℕ) → (n ≡ 0 → ⊥) → length l ≤ n - 1 → 0 ≡ topDepth n l
-depth-past zero l e h = absurd (e refl)
-depth-past (suc n) l e h = rw (mul-one n, nothing-left l n (omega arith)) refl
-
-pub fits-none : (P n d : ℕ) → n ≡ 0 → true ≡ topFits P n d
+pub fits-none : (P n : ℕ) (d : Depths) → n ≡ 0 → true ≡ topFits P n d
 fits-none P zero d h = refl
 fits-none P (suc n) d h = absurd (omega arith)
 
-pub fits-not : (P n d : ℕ) → P + d < n → false ≡ topFits P n d
+pub fits-not : (P n : ℕ) (d : Depths) → P + (d .first + d .second) < n → false ≡ topFits P n d
 fits-not P zero d k = absurd (omega arith)
-fits-not P (suc n) d k = rw (lt-leb (suc n) (P + d) k) refl
+fits-not P (suc n) d k = rw (lt-leb (suc n) (P + (d .first + d .second)) k) refl
 
-pub fits-depth : (P n d : ℕ) → (n ≡ 0 → ⊥) → n ≤ P + d → lib.Dec.leb d 64 ≡ topFits P n d
-fits-depth P zero d h k = absurd (h refl)
-fits-depth P (suc n) d h k = rw (le-leb (suc n) (P + d) k) refl
+pub first-deep : (P n : ℕ) (d : Depths) → (n ≡ 0 → ⊥) → n ≤ P + (d .first + d .second) → 32 < d .first → false ≡ topFits P n d
+first-deep P zero d h k f = absurd (h refl)
+first-deep P (suc n) d h k f = rw (le-leb (suc n) (P + (d .first + d .second)) k, lt-leb (d .first) 32 f) refl
+
+pub fits-depth : (P n : ℕ) (d : Depths) → (n ≡ 0 → ⊥) → n ≤ P + (d .first + d .second) → d .first ≤ 32 → lib.Dec.leb (d .second) 32 ≡ topFits P n d
+fits-depth P zero d h k f = absurd (h refl)
+fits-depth P (suc n) d h k f = rw (le-leb (suc n) (P + (d .first + d .second)) k, le-leb (d .first) 32 f) refl
 
 pub ended-is : (t : Tally) → t .stopped ≡ false → eqb (t .waiting) 0 ≡ over t
 ended-is t e = rw e (go (t .waiting))

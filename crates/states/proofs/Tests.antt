@@ -9,6 +9,7 @@ use lib.Dec.{leb, eqb}
 use borrow.Author.Tests.{leb-true, eqb-true}
 use Rattle.states.specs.declared.Tally.{Tally}
 use Rattle.states.specs.declared.State.{State}
+use Rattle.states.specs.declared.Depths.{Depths}
 use Rattle.states.specs.declared.Top.{Top}
 use Rattle.states.specs.declared.Top.the-variants.{Node, Ended, NoRoom}
 use Rattle.states.specs.States.{Sizes, needed, enough, enoughOwn, depthAt, topFits, searchWith, topDepth, isZero, over, topOf, allowanceOf, recordsOf}
@@ -39,19 +40,25 @@ pub waits : (t : Tally) → over t ≡ false → 1 ≤ t .waiting
 waits t e = zero-no (t .waiting) (or-second (t .stopped) (isZero (t .waiting)) e)
 
 -- ---- what the six tests say
-pub record Sound (t : Tally) (d : ℕ) : Type 0 where
-  pub top : t .waiting ≤ t .pairs + d
-  pub deep : d ≤ 64
+pub record Sound (t : Tally) (d : Depths) : Type 0 where
+  pub top : t .waiting ≤ t .pairs + (d .first + d .second)
+  pub deep1 : d .first ≤ 32
+  pub deep2 : d .second ≤ 32
   pub balance : t .pairs + t .splits ≡ t .settled + t .given + t .waiting
   pub allowance : t .splits + t .unspent ≡ allowanceOf t
   pub tags : t .settled ≡ t .boxes + t .planes + t .lines
   pub seen : t .visits ≤ t .splits + t .settled + t .given + 1
 
-top-is : (P n d : ℕ) → 1 ≤ n → topFits P n d ≡ true → (n ≤ P + d) × (d ≤ 64)
+top-is : (P n : ℕ) (d : Depths) → 1 ≤ n → topFits P n d ≡ true → (n ≤ P + (d .first + d .second)) × (d .first ≤ 32) × (d .second ≤ 32)
 top-is P zero d h e = absurd (omega arith)
-top-is P (suc n) d h e = (leb-true (suc n) (P + d) (and-first (leb (suc n) (P + d)) (leb d 64) e), leb-true d 64 (and-second (leb (suc n) (P + d)) (leb d 64) e))
+top-is P (suc n) d h e =
+    let b1 = leb (suc n) (P + (d .first + d .second)) in
+    let b2 = leb (d .first) 32 in
+    let b3 = leb (d .second) 32 in
+    let f = and-second b1 (b2 && b3) e in
+    (leb-true (suc n) (P + (d .first + d .second)) (and-first b1 (b2 && b3) e), leb-true (d .first) 32 (and-first b2 b3 f), leb-true (d .second) 32 (and-second b2 b3 f))
 
-pub sound : (t : Tally) (d : ℕ) → 1 ≤ t .waiting → searchWith t d ≡ true → Sound t d
+pub sound : (t : Tally) (d : Depths) → 1 ≤ t .waiting → searchWith t d ≡ true → Sound t d
 sound t d h e =
     let b1 = topFits (t .pairs) (t .waiting) d in
     let b2 = eqb (t .pairs + t .splits) (t .settled + t .given + t .waiting) in
@@ -64,7 +71,8 @@ sound t d h e =
     let top = top-is (t .pairs) (t .waiting) d h (and-first b1 (b2 && (b3 && (b4 && b5))) e) in
     record {
       top = top .0;
-      deep = top .1;
+      deep1 = top .1;
+      deep2 = top .2;
       balance = eqb-true _ _ (and-first b2 (b3 && (b4 && b5)) e2);
       allowance = eqb-true _ _ (and-first b3 (b4 && b5) e3);
       tags = eqb-true _ _ (and-first b4 b5 e4);
@@ -79,31 +87,31 @@ slots-fit P k n len h r = le-trans (mul-le-mul-right n h) r
 pub record RoomOwn (x : State) (s : Sizes) : Type 0 where
   pub nets1 : (x .tally .pairs + 64) * (4 * x .width1) ≤ s .nets1
   pub nets2 : (x .tally .pairs + 64) * (4 * x .width2) ≤ s .nets2
-  pub depths : (x .tally .pairs + 64) * 1 ≤ s .depths
+  pub depths : (x .tally .pairs + 64) * 2 ≤ s .depths
 
 pub room-own : (x : State) (s : Sizes) → enoughOwn (needed x) s ≡ true → RoomOwn x s
 room-own x s e =
     let b1 = leb ((x .tally .pairs + 64) * (4 * x .width1)) (s .nets1) in
     let b2 = leb ((x .tally .pairs + 64) * (4 * x .width2)) (s .nets2) in
-    let b3 = leb ((x .tally .pairs + 64) * 1) (s .depths) in
+    let b3 = leb ((x .tally .pairs + 64) * 2) (s .depths) in
     record {
       nets1 = leb-true _ _ (and-first b1 (b2 && b3) e);
       nets2 = leb-true _ _ (and-first b2 b3 (and-second b1 (b2 && b3) e));
       depths = leb-true _ _ (and-second b2 b3 (and-second b1 (b2 && b3) e));
     }
 
-pub top-slot : (x : State) (d n len : ℕ) → over (x .tally) ≡ false → searchWith (x .tally) d ≡ true → (x .tally .pairs + 64) * n ≤ len → (x .tally .waiting - 1 + 1) * n ≤ len
+pub top-slot : (x : State) (d : Depths) (n len : ℕ) → over (x .tally) ≡ false → searchWith (x .tally) d ≡ true → (x .tally .pairs + 64) * n ≤ len → (x .tally .waiting - 1 + 1) * n ≤ len
 top-slot x d n len o e r =
     let w = waits (x .tally) o in
     let s = sound (x .tally) d w e in
-    let k : x .tally .waiting - 1 + 1 ≤ x .tally .pairs + 64 = (let a = s .top in let b = s .deep in omega arith) in
+    let k : x .tally .waiting - 1 + 1 ≤ x .tally .pairs + 64 = (let a = s .top in let b = s .deep1 in let c = s .deep2 in omega arith) in
     slots-fit (x .tally .pairs) (x .tally .waiting - 1 + 1) n len k r
 
 pub record RoomAll (x : State) (s : Sizes) : Type 0 where
   pub nets1 : (x .tally .pairs + 64) * (4 * x .width1) ≤ s .nets1
   pub nets2 : (x .tally .pairs + 64) * (4 * x .width2) ≤ s .nets2
   pub ranges : (x .tally .pairs + 64) * 4 ≤ s .ranges
-  pub depths : (x .tally .pairs + 64) * 1 ≤ s .depths
+  pub depths : (x .tally .pairs + 64) * 2 ≤ s .depths
   pub raw : recordsOf (x .tally) * 10 ≤ s .raw
 
 pub enough-own : (need have : Sizes) → enough need have ≡ true → enoughOwn need have ≡ true
@@ -131,11 +139,11 @@ pub one-more : (n : ℕ) → 1 ≤ n → n ≡ suc (n - 1)
 one-more n h = omega arith
 
 -- ---- what `top_node` answers, and what its answer says
-abbrev topWith : Tally → ℕ → Bool → Bool → Top
+abbrev topWith : Tally → Depths → Bool → Bool → Top
 topWith t d o s = cond o Ended (cond s (Node (t .waiting - 1) d) NoRoom)
 
 module _ (t : Tally) (room : Bool) (depths : List ℕ) where
-  abbrev d : ℕ
+  abbrev d : Depths
   d = topDepth (t .waiting) depths
 
   pub ended-top : over t ≡ true → Ended ≡ topOf t room depths
@@ -147,7 +155,7 @@ module _ (t : Tally) (room : Bool) (depths : List ℕ) where
   pub forged-top : over t ≡ false → room ≡ true → searchWith t d ≡ false → NoRoom ≡ topOf t room depths
   forged-top o r s = rw (o, r, s) refl
 
-  pub node-top : (e : ℕ) → over t ≡ false → room ≡ true → e ≡ d → searchWith t e ≡ true → Node (t .waiting - 1) e ≡ topOf t room depths
+  pub node-top : (e : Depths) → over t ≡ false → room ≡ true → e ≡ d → searchWith t e ≡ true → Node (t .waiting - 1) e ≡ topOf t room depths
   node-top e o r h s = rw (o, r, ← h, s) refl
 
   pub top-ended : Ended ≡ topOf t room depths → over t ≡ true
@@ -166,7 +174,7 @@ module _ (t : Tally) (room : Bool) (depths : List ℕ) where
       go false true e = absurd (let z : _≡_ {A = ℕ} 0 1 = cc in omega arith)
       go false false e = (refl, refl)
 
-  pub top-node : (k e : ℕ) → Node k e ≡ topOf t room depths → (over t ≡ false) × (room ≡ true) × (searchWith t d ≡ true) × (k ≡ t .waiting - 1) × (e ≡ d)
+  pub top-node : (k : ℕ) (e : Depths) → Node k e ≡ topOf t room depths → (over t ≡ false) × (room ≡ true) × (searchWith t d ≡ true) × (k ≡ t .waiting - 1) × (e ≡ d)
   top-node k e h =
       let g = go (over t) (room && searchWith t d) h in
       (g .0, and-first room (searchWith t d) (g .1), and-second room (searchWith t d) (g .1), g .2, g .3)

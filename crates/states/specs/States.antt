@@ -1,18 +1,26 @@
 -- The state, the lent memory, and number 19's tests of both (document 01, the paragraph under the table). Definitions only.
-use mathlib.Core.List.{List}
+use mathlib.Core.List.{List, [], _∷_}
 use mathlib.Core.Bool.{Bool, true, false, _&&_, _||_, cond}
 use Prim.Native.Nat.{ℕ, zero, suc, _+_, _-_, _*_}
 use lib.Dec.{leb, eqb}
 use lib.ListN.{length, getD}
 use lib.Ieee.{Float}
 use Rattle.lists.specs.Parts.{block}
-use Rattle.machine.specs.Machine.{limit}
 use Rattle.terms.specs.declared.Terms.{Terms}
 use Rattle.states.specs.declared.Tally.{Tally}
 use Rattle.states.specs.declared.State.{State}
 use Rattle.states.specs.declared.Counts.{Counts}
+use Rattle.states.specs.declared.Depths.{Depths}
 use Rattle.states.specs.declared.Top.{Top}
 use Rattle.states.specs.declared.Top.the-variants.{Node, Ended, NoRoom}
+
+-- "two depths, each at most 32": the most halvings of one line between its piece and a node
+abbrev pub limit : ℕ
+limit = 32
+
+-- "Still at most pairs + 64 nodes wait"
+abbrev pub spare : ℕ
+spare = 2 * limit
 
 -- the lent slices; node k owns slot k of the nets, the ranges and the depths
 pub record Memory : Type 0 where
@@ -65,14 +73,13 @@ allowanceOf t = t .quota * t .pairs
 abbrev pub recordsOf : Tally → ℕ
 recordsOf t = t .pairs + allowanceOf t
 
--- "nets (P + 64) × 4 × width for each line; node ranges 4 × (P + 64), and as many depths as nodes; raw regions 10 × P × (S + 1)"
+-- "nets (P + 64) × 4 × width for each line; node ranges 4 × (P + 64), and as many depths as nodes", now "two a node"; "raw regions 10 × P × (S + 1)"
 abbrev pub needed : State → Sizes
 needed x = record {
-  nets1 = (x .tally .pairs + limit) * (4 * x .width1);
-  nets2 = (x .tally .pairs + limit) * (4 * x .width2);
-  ranges = (x .tally .pairs + limit) * 4;
-  -- one a node
-  depths = (x .tally .pairs + limit) * 1;
+  nets1 = (x .tally .pairs + spare) * (4 * x .width1);
+  nets2 = (x .tally .pairs + spare) * (4 * x .width2);
+  ranges = (x .tally .pairs + spare) * 4;
+  depths = (x .tally .pairs + spare) * 2;
   raw = recordsOf (x .tally) * 10;
 }
 
@@ -84,16 +91,34 @@ abbrev pub enough : Sizes → Sizes → Bool
 enough need have = enoughOwn need have && (leb (need .ranges) (have .ranges) && leb (need .raw) (have .raw))
 
 -- ---- "a state that is no search's": the five tests, and "A state whose three don't sum so meets 19"
--- the depth in slot k
-abbrev pub depthAt : List ℕ → ℕ → ℕ
-depthAt depths k = getD (block 1 k depths) 0 0
+-- two depths, and both in slot k: the first line's first
+abbrev pub depthsOf : ℕ → ℕ → Depths
+depthsOf a b = record { first = a; second = b }
 
--- the count waiting is at most P + the top node's depth d, if one waits, and that depth is at most 64
-abbrev pub topFits : ℕ → ℕ → ℕ → Bool
+abbrev pub depthAt : List ℕ → ℕ → Depths
+depthAt depths k = depthsOf (getD (block 2 k depths) 0 0) (getD (block 2 k depths) 1 0)
+
+abbrev pub pairOf : Depths → List ℕ
+pairOf d = d .first ∷ d .second ∷ []
+
+-- one deeper on the second line (true), or on the first
+abbrev pub deepened : Bool → Depths → Depths
+deepened true d = depthsOf (d .first) (suc (d .second))
+deepened false d = depthsOf (suc (d .first)) (d .second)
+
+-- a line at the limit is halved no more
+abbrev pub atEnd1 : Depths → Bool
+atEnd1 d = leb limit (d .first)
+
+abbrev pub atEnd2 : Depths → Bool
+atEnd2 d = leb limit (d .second)
+
+-- the count waiting is at most P + the top node's depth, if one waits: "the top node's depth is the sum of its two, and either over 32 meets 19 too"
+abbrev pub topFits : ℕ → ℕ → Depths → Bool
 topFits P zero d = true
-topFits P (suc k) d = leb (suc k) (P + d) && leb d limit
+topFits P (suc k) d = leb (suc k) (P + (d .first + d .second)) && (leb (d .first) limit && leb (d .second) limit)
 
-abbrev pub searchWith : Tally → ℕ → Bool
+abbrev pub searchWith : Tally → Depths → Bool
 searchWith t d =
     topFits (t .pairs) (t .waiting) d
     && (eqb (t .pairs + t .splits) (t .settled + t .given + t .waiting)
@@ -101,9 +126,9 @@ searchWith t d =
     && (eqb (t .settled) (t .boxes + t .planes + t .lines)
     && leb (t .visits) (t .splits + t .settled + t .given + 1))))
 
--- the top node's depth, of so many waiting
-abbrev pub topDepth : ℕ → List ℕ → ℕ
-topDepth zero depths = 0
+-- the top node's depths, of so many waiting
+abbrev pub topDepth : ℕ → List ℕ → Depths
+topDepth zero depths = depthsOf 0 0
 topDepth (suc k) depths = depthAt depths k
 
 abbrev pub isSearch : State → Memory → Bool

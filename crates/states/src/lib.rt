@@ -2,6 +2,7 @@
 ghost use mathlib.Core.Path.{_≡_};
 ghost use Prim.Native.Nat.{_+_, _*_, _≤_};
 ghost use lib.Dec.{eqb};
+ghost use lib.ListN.{getD};
 ghost use Rattle.states.specs.States.{allowanceOf, recordsOf, needed, enough, enoughOwn, topDepth, topFits, searchWith, over, countsOf, topOf, firstState};
 use terms::Terms;
 
@@ -55,9 +56,15 @@ pub struct Counts {
     pub unspent: u32,
 }
 
-// What a call finds on top: a node and its depth, number 20, or number 19.
+// A node's two depths: how often the first line was halved, and the second.
+pub struct Depths {
+    pub first: u8,
+    pub second: u8,
+}
+
+// What a call finds on top: a node and its depths, number 20, or number 19.
 pub enum Top {
-    Node(u32, u8),
+    Node(u32, Depths),
     Ended,
     NoRoom,
 }
@@ -142,8 +149,7 @@ pub fn has_room_to_judge(st: State, nets1: usize, nets2: usize, depths: usize) -
     if nets2 < nodes * (4 * (st.width2 as usize)) {
         return false;
     }
-    // one a node
-    depths >= nodes * 1
+    depths >= nodes * 2
 }
 
 // Whether lent slices of these lengths are enough for a step.
@@ -166,31 +172,47 @@ pub fn has_room(
     raw >= records(st.tally) * 10
 }
 
-// The depth of the top node of so many waiting; 0 where its slot isn't lent.
-pub fn top_depth(depths: &[u8], waiting: u32) -> u8
-    ensures { λ r. ⌜ r ≡ topDepth waiting (now (depths .entry)) ⌝ }
+// The depth in place i; 0 where it isn't lent.
+fn depth_at(depths: &[u8], i: usize) -> u8
+    ensures { λ r. ⌜ r ≡ getD (now (depths .entry)) i 0 ⌝ }
 {
-    if waiting == 0 {
-        return 0;
-    }
-    let k = waiting as usize - 1;
-    if k < depths.len() {
-        return depths[k];
+    if i < depths.len() {
+        return depths[i];
     }
     0
 }
 
-// Whether a count waiting is one that a search can have, with the top node's depth.
-fn top_fits(pairs: u16, waiting: u32, depth: u8) -> bool
+// The depths of the top node of so many waiting.
+pub fn top_depth(depths: &[u8], waiting: u32) -> Depths
+    ensures { λ r. ⌜ r ≡ topDepth waiting (now (depths .entry)) ⌝ }
+{
+    if waiting == 0 {
+        return Depths {
+            first: 0,
+            second: 0,
+        };
+    }
+    let k = waiting as usize - 1;
+    Depths {
+        first: depth_at(depths, k * 2),
+        second: depth_at(depths, k * 2 + 1),
+    }
+}
+
+// Whether a count waiting is one that a search can have, with the top node's depths.
+fn top_fits(pairs: u16, waiting: u32, depth: Depths) -> bool
     ensures { λ r. ⌜ r ≡ topFits pairs waiting depth ⌝ }
 {
     if waiting == 0 {
         return true;
     }
-    if waiting > pairs as u32 + depth as u32 {
+    if waiting > pairs as u32 + (depth.first as u32 + depth.second as u32) {
         return false;
     }
-    depth <= 64
+    if depth.first > 32 {
+        return false;
+    }
+    depth.second <= 32
 }
 
 // Whether the nodes settled by box, plane and line are all that were settled.
@@ -200,8 +222,8 @@ fn tags_sum(settled: u32, boxes: u32, planes: u32, lines: u32) -> bool
     settled as u64 == boxes as u64 + planes as u64 + lines as u64
 }
 
-// Whether the state, with the top node's depth, is some search's.
-pub fn is_search(t: Tally, depth: u8) -> bool
+// Whether the state, with the top node's depths, is some search's.
+pub fn is_search(t: Tally, depth: Depths) -> bool
     ensures { λ r. ⌜ r ≡ searchWith t depth ⌝ }
 {
     if !top_fits(t.pairs, t.waiting, depth) {
