@@ -81,7 +81,7 @@ askings =
     ∷ []
 
 abbrev pub answered : List Asking → Opened → Memory → List Answer
-answered l (Open x n) u = runAll geometry (map (λ (a : Asking). a .call) l) x u .answers
+answered l (Open x) u = runAll geometry (map (λ (a : Asking). a .call) l) x u .answers
 answered l (BadLine line a) u = []
 answered l BadDatum u = []
 answered l (BadQuestion a) u = []
@@ -89,7 +89,7 @@ answered l OpenNoRoom u = []
 
 -- A with (0,2,0) to (2,0,0), gap 0, S 1
 abbrev pub answers : List Answer
-answers = let o = openDef (question lineA (straight zero64 two64 two64 zero64) zero64 1) (replicate 8 zero64) (replicate 8 zero64) (replicate 6 zero64) (room 1) in answered askings (o .answer) (o .memory)
+answers = let o = openDef (question lineA (straight zero64 two64 two64 zero64) zero64 1) (replicate 8 zero64) (replicate 8 zero64) (room 1) in answered askings (o .answer) (o .memory)
 
 abbrev pub AllAnswered : Type 0
 AllAnswered = (map said answers ≡ map (λ (a : Asking). a .answer) askings)
@@ -126,7 +126,7 @@ taggings =
     ∷ []
 
 abbrev pub tagAnswers : List Answer
-tagAnswers = let o = openDef (question lineA (straight one64 zero64 three64 two64) half64 0) (replicate 8 zero64) (replicate 8 zero64) (replicate 6 zero64) (room 0) in answered taggings (o .answer) (o .memory)
+tagAnswers = let o = openDef (question lineA (straight one64 zero64 three64 two64) half64 0) (replicate 8 zero64) (replicate 8 zero64) (room 0) in answered taggings (o .answer) (o .memory)
 
 abbrev pub TaggedByCaller : Type 0
 TaggedByCaller = (map said tagAnswers ≡ map (λ (a : Asking). a .answer) taggings)

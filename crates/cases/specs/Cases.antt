@@ -97,14 +97,14 @@ reportedOf splits Ended u = refused 20
 reportedOf splits NoRoom u = refused 19
 
 abbrev pub ranFrom : ℕ → Opened → Memory → Answer
-ranFrom splits (Open x n) u = let o = runDef geometry x u in reportedOf splits (o .answer) (o .memory)
+ranFrom splits (Open x) u = let o = runDef geometry x u in reportedOf splits (o .answer) (o .memory)
 ranFrom splits (BadLine line a) u = refused (openedNumber (BadLine line a))
 ranFrom splits BadDatum u = refused (openedNumber BadDatum)
 ranFrom splits (BadQuestion a) u = refused (openedNumber (BadQuestion a))
 ranFrom splits OpenNoRoom u = refused 19
 
 abbrev pub search : Question → Answer
-search q = let o = openDef q (replicate 8 zero64) (replicate 8 zero64) (replicate 6 zero64) (room (q .splits)) in ranFrom (q .splits) (o .answer) (o .memory)
+search q = let o = openDef q (replicate 8 zero64) (replicate 8 zero64) (room (q .splits)) in ranFrom (q .splits) (o .answer) (o .memory)
 
 -- A case: a number and its root by their patterns; a line, a range of it and its pieces' nets, four numbers a point; a question with the number and the line of what is wrong with
 -- it, 0 and 0 if nothing is; a question and its answer.
@@ -349,7 +349,7 @@ closed =
 abbrev pub searchOfTwo : Question → Answer
 searchOfTwo q =
     let u = memory (replicate 528 zero64) (replicate 528 zero64) (replicate 264 zero64) (replicate 132 0) (replicate 20 zero64) in
-    let o = openDef q (replicate 32 zero64) (replicate 8 zero64) (replicate 6 zero64) u in
+    let o = openDef q (replicate 32 zero64) (replicate 8 zero64) u in
     ranFrom 1 (o .answer) (o .memory)
 
 -- a range of a line from 0, against all of a straight one, at gap 0 and S 0
@@ -443,7 +443,7 @@ SeamInside =
     let end = ofBits binary64 0x4012_0000_0000_0000 in
     let u = memory (replicate 528 zero64) (replicate 528 zero64) (replicate 264 zero64) (replicate 132 0) (replicate 20 zero64) in
     let q : Question = record { line1 = straight four minus four one64; lo1 = zero64; hi1 = one64; line2 = square; lo2 = half64; hi2 = end; gap = zero64; splits = 0 } in
-    let o = openDef q (replicate 8 zero64) (replicate 40 zero64) (replicate 54 zero64) u in
+    let o = openDef q (replicate 8 zero64) (replicate 40 zero64) u in
     ranFrom 1 (o .answer) (o .memory)
     ≡ (record {
       word = 1;

@@ -24,7 +24,7 @@ use Rattle.states.specs.States.{sizes, needed, enough}
 use Rattle.opening.specs.declared.Opened.{Opened}
 use Rattle.opening.specs.declared.Opened.the-variants.{Open, BadLine, BadDatum, BadQuestion, NoRoom}
 use Rattle.opening.specs.Asked.{start, stateOf, openMemory}
-use Rattle.opening.specs.Opens.{searchFor, isAdmitted, isFine, openedNumber, openedLine, slicesFit, piecesIn, treeIn, testsFor, Pushing, pushing, Opening, opening, openDef}
+use Rattle.opening.specs.Opens.{searchFor, isAdmitted, isFine, openedNumber, openedLine, piecesFit, piecesIn, Pushing, pushing, Opening, opening, openDef}
 use Rattle.walks.specs.Sheets.{ChartLine, Chart}
 use Rattle.sheet.specs.Answers.{zeros, lent, openedOn}
 use Rattle.charts.specs.Charts.{Tested, tested, firstMet, pairFor, countNumber, lineNumber, datumNumber, rangeNumber, gapNumber, splitsNumber, breaksNumber, roomNumber, Row, ofCount, ofLine, ofDatum, ofRange, ofGap, ofSplits, ofBreaks, ofRoom, eachLine as eachRow, order, testOf, tests}
@@ -36,31 +36,28 @@ module _ (q : Question) where
   abbrev x : State
   x = stateOf (searchFor q) (start (searchFor q))
 
-  abbrev made : ℕ
-  made = testsFor q
-
   abbrev byTests : Bool → Bool → Bool → AskAnswer → Bool → Bool → Opened
   byTests a b n k d e =
-      cond a (cond b (cond n (cond (isFine k) (cond d (cond e (Open x made) NoRoom) NoRoom) (BadQuestion k)) BadDatum) (BadLine 2 (admitOf (q .line2)))) (BadLine 1 (admitOf (q .line1)))
+      cond a (cond b (cond n (cond (isFine k) (cond d (cond e (Open x) NoRoom) NoRoom) (BadQuestion k)) BadDatum) (BadLine 2 (admitOf (q .line2)))) (BadLine 1 (admitOf (q .line1)))
 
   abbrev pushes : Bool → Opening
   pushes e =
-      let o = cond {A = Pushing} e (pushing (Open x made) (openMemory (searchFor q) lent)) (pushing NoRoom lent) in
-      opening (o .answer) (piecesIn (q .line1) (q .lo1) (q .hi1) (zeros 8112)) (piecesIn (q .line2) (q .lo2) (q .hi2) (zeros 8112)) (treeIn (q .line2) (q .lo2) (q .hi2) (zeros 3066)) (o .memory)
+      let o = cond {A = Pushing} e (pushing (Open x) (openMemory (searchFor q) lent)) (pushing NoRoom lent) in
+      opening (o .answer) (piecesIn (q .line1) (q .lo1) (q .hi1) (zeros 8112)) (piecesIn (q .line2) (q .lo2) (q .hi2) (zeros 8112)) (o .memory)
 
   opened-by : openedOn q
       ≡ byTests (isAdmitted (admitOf (q .line1))) (isAdmitted (admitOf (q .line2))) (oneDatum (q .line1 .datum) (q .line2 .datum)) (askOf q)
-      (slicesFit q (zeros 8112) (zeros 8112) (zeros 3066)) (enough (needed x) (sizes lent))
+      (piecesFit q (zeros 8112) (zeros 8112)) (enough (needed x) (sizes lent))
   unfolding openedOn
   opened-by =
       go (isAdmitted (admitOf (q .line1))) (isAdmitted (admitOf (q .line2))) (oneDatum (q .line1 .datum) (q .line2 .datum)) (isFine (askOf q))
-      (slicesFit q (zeros 8112) (zeros 8112) (zeros 3066)) (enough (needed x) (sizes lent))
+      (piecesFit q (zeros 8112) (zeros 8112)) (enough (needed x) (sizes lent))
     where
       go : (a b n k d e : Bool)
-          → cond {A = Opening} a (cond b (cond n (cond k (cond d (pushes e) (opening NoRoom (zeros 8112) (zeros 8112) (zeros 3066) lent)) (opening (BadQuestion (askOf q)) (zeros 8112) (zeros 8112) (zeros 3066) lent))
-          (opening BadDatum (zeros 8112) (zeros 8112) (zeros 3066) lent)) (opening (BadLine 2 (admitOf (q .line2))) (zeros 8112) (zeros 8112) (zeros 3066) lent))
-          (opening (BadLine 1 (admitOf (q .line1))) (zeros 8112) (zeros 8112) (zeros 3066) lent) .answer
-          ≡ cond a (cond b (cond n (cond k (cond d (cond e (Open x made) NoRoom) NoRoom) (BadQuestion (askOf q))) BadDatum) (BadLine 2 (admitOf (q .line2)))) (BadLine 1 (admitOf (q .line1)))
+          → cond {A = Opening} a (cond b (cond n (cond k (cond d (pushes e) (opening NoRoom (zeros 8112) (zeros 8112) lent)) (opening (BadQuestion (askOf q)) (zeros 8112) (zeros 8112) lent))
+          (opening BadDatum (zeros 8112) (zeros 8112) lent)) (opening (BadLine 2 (admitOf (q .line2))) (zeros 8112) (zeros 8112) lent))
+          (opening (BadLine 1 (admitOf (q .line1))) (zeros 8112) (zeros 8112) lent) .answer
+          ≡ cond a (cond b (cond n (cond k (cond d (cond e (Open x) NoRoom) NoRoom) (BadQuestion (askOf q))) BadDatum) (BadLine 2 (admitOf (q .line2)))) (BadLine 1 (admitOf (q .line1)))
       go true true true true true true = refl
       go true true true true true false = refl
       go true true true true false e = refl
@@ -79,9 +76,9 @@ either : ℕ → ℕ → ℕ
 either a b = cond (eqb a 0) b a
 
 -- the number and place that the opening gives are those of the first stage that is met
-module _ (x : State) (made : ℕ) (m1 m2 : Admission) (k : ℕ) where
+module _ (x : State) (m1 m2 : Admission) (k : ℕ) where
   abbrev opens : Bool → Bool → Bool → AskAnswer → Bool → Bool → Opened
-  opens a b n ask d e = cond a (cond b (cond n (cond (isFine ask) (cond d (cond e (Open x made) NoRoom) NoRoom) (BadQuestion ask)) BadDatum) (BadLine 2 m2)) (BadLine 1 m1)
+  opens a b n ask d e = cond a (cond b (cond n (cond (isFine ask) (cond d (cond e (Open x) NoRoom) NoRoom) (BadQuestion ask)) BadDatum) (BadLine 2 m2)) (BadLine 1 m1)
 
   abbrev roomOf : Opened → ℕ
   roomOf o = cond (eqb (openedNumber o) 0) 0 19
@@ -126,11 +123,11 @@ module _ (c : Chart) where
   unfolding stages askWithin
   opened-first l k =
       let q = pairFor c l in
-      by-stages (stateOf (searchFor q) (start (searchFor q))) (testsFor q) (admitOf (q .line1)) (admitOf (q .line2)) k (isAdmitted (admitOf (q .line1))) (isAdmitted (admitOf (q .line2)))
+      by-stages (stateOf (searchFor q) (start (searchFor q))) (admitOf (q .line1)) (admitOf (q .line2)) k (isAdmitted (admitOf (q .line1))) (isAdmitted (admitOf (q .line2)))
       (oneDatum (q .line1 .datum) (q .line2 .datum)) (rangeFits (q .line1 .closed) (boundsOf (q .line1)) (q .lo1) (q .hi1))
       (rangeFits (q .line2 .closed) (boundsOf (q .line2)) (q .lo2) (q .hi2)) (within zero64 two24 (q .gap)) (ltb 256 (q .splits))
       (eachTwo parted (breaksOf (q .line1) (q .lo1) (q .hi1))) (eachTwo parted (breaksOf (q .line2) (q .lo2) (q .hi2)))
-      (slicesFit q (zeros 8112) (zeros 8112) (zeros 3066)) (enough (needed (stateOf (searchFor q) (start (searchFor q)))) (sizes lent)) refl refl (openedOn q) (opened-by q)
+      (piecesFit q (zeros 8112) (zeros 8112)) (enough (needed (stateOf (searchFor q) (start (searchFor q)))) (sizes lent)) refl refl (openedOn q) (opened-by q)
 
 rank-line : (a : Admission) (k : ℕ) → isAdmitted a ≡ false → rankOf (admissionNumber a) k ≡ cond (eqb k 1) 0 1
 unfolding rankOf

@@ -53,7 +53,7 @@ module _ (out : List ℕ) where
 
   opened-says : (a : Opened) (u : Memory) → starts (openedText a u lentOutput) ≡ openedComplete a u
   unfolding searchText
-  opened-says (Open x n) u = let o = runDef geometry x u in stepped-says (o .answer) (o .memory)
+  opened-says (Open x) u = let o = runDef geometry x u in stepped-says (o .answer) (o .memory)
   opened-says (BadLine line a) u = refused-says _ _
   opened-says BadDatum u = refused-says 23 2
   opened-says (BadQuestion a) u = refused-says _ _
@@ -61,4 +61,4 @@ module _ (out : List ℕ) where
 
   pub lines-say : (q : Question) → starts (linesText q) ≡ linesComplete q
   unfolding linesText linesComplete
-  lines-say q = let o = openDef q (zeros 8112) (zeros 8112) (zeros 3066) lent in opened-says (o .answer) (o .memory)
+  lines-say q = let o = openDef q (zeros 8112) (zeros 8112) lent in opened-says (o .answer) (o .memory)

@@ -142,7 +142,7 @@ steppedComplete Ended u = false
 steppedComplete NoRoom u = false
 
 abbrev pub openedComplete : Opened → Memory → Bool
-openedComplete (Open x n) u = let o = runDef geometry x u in steppedComplete (o .answer) (o .memory)
+openedComplete (Open x) u = let o = runDef geometry x u in steppedComplete (o .answer) (o .memory)
 openedComplete (BadLine line a) u = false
 openedComplete BadDatum u = false
 openedComplete (BadQuestion a) u = false
@@ -150,7 +150,7 @@ openedComplete NoOpenRoom u = false
 
 -- the report of the track and this line, searched alone, says complete
 unfoldable pub linesComplete : Question → Bool
-linesComplete q = let o = openDef q (zeros 8112) (zeros 8112) (zeros 3066) lent in openedComplete (o .answer) (o .memory)
+linesComplete q = let o = openDef q (zeros 8112) (zeros 8112) lent in openedComplete (o .answer) (o .memory)
 
 -- "the chart is complete exactly when every report is"
 abbrev pub allComplete : Chart → List ChartLine → Bool

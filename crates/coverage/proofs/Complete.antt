@@ -312,13 +312,13 @@ module _ (q : Asked) (u : Memory) (F : Fine q) (room : T (enough (needed (stateO
       )
 
 pub loop-ends : LoopEnds
-loop-ends q p1 p2 tree u x tests e = opened-fresh q p1 p2 tree u x tests (λ (y : State) (m : Memory). Claims (searchFor q) (sizes u) y m) (loop-claims (searchFor q) u) e .0
+loop-ends q p1 p2 u x e = opened-fresh q p1 p2 u x (λ (y : State) (m : Memory). Claims (searchFor q) (sizes u) y m) (loop-claims (searchFor q) u) e .0
 
 pub complete-is-clear : CompleteIsClear
-complete-is-clear q p1 p2 tree u x y tests e r = opened-fresh q p1 p2 tree u x tests (λ (y : State) (m : Memory). Claims (searchFor q) (sizes u) y m) (loop-claims (searchFor q) u) e .1 y r
+complete-is-clear q p1 p2 u x y e r = opened-fresh q p1 p2 u x (λ (y : State) (m : Memory). Claims (searchFor q) (sizes u) y m) (loop-claims (searchFor q) u) e .1 y r
 
 pub loop-reports : LoopReports
-loop-reports q p1 p2 tree u x y tests e r = opened-fresh q p1 p2 tree u x tests (λ (y : State) (m : Memory). Claims (searchFor q) (sizes u) y m) (loop-claims (searchFor q) u) e .2 y r
+loop-reports q p1 p2 u x y e r = opened-fresh q p1 p2 u x (λ (y : State) (m : Memory). Claims (searchFor q) (sizes u) y m) (loop-claims (searchFor q) u) e .2 y r
 
 -- ---- what is told is the loop's, and nothing else
 -- no other marks are as `GoodReport.marked` says

@@ -2,8 +2,7 @@
 use mathlib.Core.Path.{_≡_}
 use mathlib.Core.Bool.{Bool, false, _&&_, cond}
 use mathlib.Core.List.{List}
-use Prim.Native.Nat.{ℕ}
-use lib.Dec.{leb}
+use Prim.Native.Nat.{ℕ, _<_}
 use lib.ListN.{length}
 use lib.Ieee.{Float}
 use Rattle.lines.specs.Lines.{Question}
@@ -22,6 +21,6 @@ passes q = isAdmitted (admitOf (q .line1)) && (isAdmitted (admitOf (q .line2)) &
 -- 19 where they pass, and else the number, from 4 to 18, 22 or 23, that enough words would get; all slices are as they were
 abbrev pub ShortState : Type 0
 ShortState =
-    (q : Question) (p1 p2 tree : List Float) (u : Memory) (ws ts : List ℕ) → (leb 23 (length ws) && leb 1 (length ts)) ≡ false
-    → (callOpen q p1 p2 tree u ws ts ≡ openCall (cond (passes q) 19 (openAnswer (openDef q p1 p2 tree u .answer))) ws ts p1 p2 tree u)
-    × (passes q ≡ false → FaultNumber (openedNumber (openDef q p1 p2 tree u .answer)))
+    (q : Question) (p1 p2 : List Float) (u : Memory) (ws : List ℕ) → length ws < 23
+    → (callOpen q p1 p2 u ws ≡ openCall (cond (passes q) 19 (openAnswer (openDef q p1 p2 u .answer))) ws p1 p2 u)
+    × (passes q ≡ false → FaultNumber (openedNumber (openDef q p1 p2 u .answer)))

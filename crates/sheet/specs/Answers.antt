@@ -26,7 +26,7 @@ use Rattle.texts.specs.Texts.{Wrote}
 use Rattle.printing.specs.Printed.{countsLength, regionLength, countLine, regionLines, refusalLine}
 use Rattle.sheet.specs.declared.Pair.{Pair}
 
--- ---- "It lends 8,112 floats a line for pieces, 7,904 a line for nets, 304 for ranges, 76 depths", now "152", "8,190 each for raw and report"; marks, "the sheet program lends 819"; for the tree "3,066 floats": zeros
+-- ---- "It lends 8,112 floats a line for pieces, 7,904 a line for nets, 304 for ranges, 76 depths", now "152", "8,190 each for raw and report"; marks, "the sheet program lends 819": zeros
 unfoldable pub zeros : ℕ → List Float
 zeros n = replicate n zero64
 
@@ -66,7 +66,7 @@ unfoldable pub searchText : State → Memory → Output → List ℕ
 searchText x u out = let o = runDef geometry x u in steppedText (o .answer) (o .memory) out
 
 abbrev pub openedText : Opened → Memory → Output → List ℕ
-openedText (Open x n) u out = searchText x u out
+openedText (Open x) u out = searchText x u out
 openedText (BadLine line a) u out = refusalLine (openedNumber (BadLine line a)) (openedLine (BadLine line a))
 openedText BadDatum u out = refusalLine (openedNumber BadDatum) (openedLine BadDatum)
 openedText (BadQuestion a) u out = refusalLine (openedNumber (BadQuestion a)) (openedLine (BadQuestion a))
@@ -74,12 +74,12 @@ openedText NoOpenRoom u out = refusalLine (openedNumber NoOpenRoom) (openedLine 
 
 -- two lines and the question, opened on the lent memory (`answer_lines`)
 unfoldable pub linesText : Question → List ℕ
-linesText q = let o = openDef q (zeros 8112) (zeros 8112) (zeros 3066) lent in openedText (o .answer) (o .memory) lentOutput
+linesText q = let o = openDef q (zeros 8112) (zeros 8112) lent in openedText (o .answer) (o .memory) lentOutput
 
 -- ---- a pair of lines, opened and, where that is asked for, searched and printed
 -- what the opening on the lent memory answers
 unfoldable pub openedOn : Question → Opened
-openedOn q = openDef q (zeros 8112) (zeros 8112) (zeros 3066) lent .answer
+openedOn q = openDef q (zeros 8112) (zeros 8112) lent .answer
 
 -- what is written: nothing where only the opening is asked for
 abbrev pub pairText : Bool → Question → List ℕ

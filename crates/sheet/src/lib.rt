@@ -141,12 +141,6 @@ fn piece_room() -> [f64; 8112]
     [0.0f64; 8112]
 }
 
-fn tree_room() -> [f64; 3066]
-    ensures { λ r. ⌜ (r ≡ zeros 3066) × (length r ≡ 3066) ⌝ }
-{
-    [0.0f64; 3066]
-}
-
 fn net_room() -> [f64; 7904]
     ensures { λ r. ⌜ (r ≡ zeros 7904) × (length r ≡ 7904) ⌝ }
 {
@@ -202,7 +196,6 @@ fn answer_lines(
 {
     let mut pieces1 = piece_room();
     let mut pieces2 = piece_room();
-    let mut tree = tree_room();
     let mut nets1 = net_room();
     let mut nets2 = net_room();
     let mut ranges = range_room();
@@ -226,14 +219,13 @@ fn answer_lines(
         weights2,
         &mut pieces1,
         &mut pieces2,
-        &mut tree,
         &mut nets1,
         &mut nets2,
         &mut ranges,
         &mut depths,
         &raw,
     ) {
-        Opened::Open(st, _) => answer_open(
+        Opened::Open(st) => answer_open(
             st,
             &mut nets1,
             &mut nets2,

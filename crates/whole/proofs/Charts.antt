@@ -23,7 +23,7 @@ use Rattle.facts.proofs.Questions.{test15, test16, test18}
 use Rattle.states.specs.States.{sizes, needed, enough}
 use Rattle.opening.specs.declared.Opened.{Opened}
 use Rattle.opening.specs.declared.Opened.the-variants.{Open, NoRoom}
-use Rattle.opening.specs.Opens.{isAdmitted, isFine, openedNumber, slicesFit, testsFor}
+use Rattle.opening.specs.Opens.{isAdmitted, isFine, openedNumber, piecesFit}
 use Rattle.walks.specs.Sheets.{ChartLine, Chart}
 use Rattle.sheet.specs.Answers.{zeros, lent, openedOn}
 use Rattle.charts.specs.Charts.{Tested, tested, pairFor, firstMet, countNumber, lineNumber, datumNumber, Row, ofCount, ofLine, ofDatum, ofRange, ofGap, ofSplits, ofBreaks, ofRoom, eachLine, order, testOf, tests}
@@ -202,14 +202,14 @@ module _ (c : Chart) where
     abbrev q : Question
     q = pairFor c l
 
-    opens : {a b : Bool} → slicesFit q (zeros 8112) (zeros 8112) (zeros 3066) ≡ a → enough (needed (x q)) (sizes lent) ≡ b → openedOn q ≡ cond a (cond b (Open (x q) (testsFor q)) NoRoom) NoRoom
+    opens : {a b : Bool} → piecesFit q (zeros 8112) (zeros 8112) ≡ a → enough (needed (x q)) (sizes lent) ≡ b → openedOn q ≡ cond a (cond b (Open (x q)) NoRoom) NoRoom
     unfolding openedOn
     opens ea eb = tested-as q (good-admitted (q .line1) (r .0)) (good-admitted (q .line2) (r .1)) (good-one q (r .2)) (good-fine q (r .0) (r .1) (r .3)) ea eb
 
     number : {o : Opened} → openedOn q ≡ o → not (eqb (openedNumber (openedOn q)) 0) ≡ not (eqb (openedNumber o) 0)
     number e = ap (λ (o : Opened). not (eqb (openedNumber o) 0)) e
 
-    short : (a : Bool) → slicesFit q (zeros 8112) (zeros 8112) (zeros 3066) ≡ a → (b : Bool) → enough (needed (x q)) (sizes lent) ≡ b → Tests (Short q) (not (eqb (openedNumber (openedOn q)) 0))
+    short : (a : Bool) → piecesFit q (zeros 8112) (zeros 8112) ≡ a → (b : Bool) → enough (needed (x q)) (sizes lent) ≡ b → Tests (Short q) (not (eqb (openedNumber (openedOn q)) 0))
     short true ea true eb =
         record {
           yes = λ e. absurd (false≢true (sym (number (opens ea eb)) ∙ e));
@@ -220,7 +220,7 @@ module _ (c : Chart) where
 
     room-agrees : Agrees (ofRoom l)
     room-agrees =
-        let z = by-test (eqb (openedNumber (openedOn q)) 0) 19 0 (lit< tt) (short (slicesFit q (zeros 8112) (zeros 8112) (zeros 3066)) refl (enough (needed (x q)) (sizes lent)) refl) in
+        let z = by-test (eqb (openedNumber (openedOn q)) 0) 19 0 (lit< tt) (short (piecesFit q (zeros 8112) (zeros 8112)) refl (enough (needed (x q)) (sizes lent)) refl) in
         record { found = z .0; meets = z .1 }
 
   -- ---- all rows in their order

@@ -12,7 +12,7 @@ use Rattle.questions.specs.Questions.{askedNumber, askedLine, askOf}
 use Rattle.facts.specs.Faults.{QuestionFault}
 use Rattle.states.specs.States.{sizes, needed, enough}
 use Rattle.opening.specs.declared.Opened.the-variants.{Open, BadLine, BadDatum, BadQuestion, NoRoom}
-use Rattle.opening.specs.Opens.{isAdmitted, isFine, slicesFit, testsFor, openDef}
+use Rattle.opening.specs.Opens.{isAdmitted, isFine, piecesFit, openDef}
 use Rattle.walks.specs.Sheets.{Chart, Walked, walked, charted, refusedAs, walkOf}
 use Rattle.printing.specs.Printed.{refusalLine}
 use Rattle.sheet.specs.Answers.{zeros, lent}
@@ -79,14 +79,14 @@ fault-printed s n place (inQuestion q w g h o f) =
 fault-printed s n place (inMemory q w g h o f l m p) =
     said q s w NoRoom (refusalLine n place) (short l) (λ u. (λ i. refusalLine (sym m i) (sym p i)))
   where
-    either : (d : Bool) → cond d (cond false (Open (x q) (testsFor q)) NoRoom) NoRoom ≡ NoRoom
+    either : (d : Bool) → cond d (cond false (Open (x q)) NoRoom) NoRoom ≡ NoRoom
     either true = refl
     either false = refl
 
-    short : Short q → openDef q (zeros 8112) (zeros 8112) (zeros 3066) lent .answer ≡ NoRoom
+    short : Short q → openDef q (zeros 8112) (zeros 8112) lent .answer ≡ NoRoom
     short (inl e) = tested-as q (good-admitted (q .line1) g) (good-admitted (q .line2) h) (good-one q o) (good-fine q g h f) e refl
     short (inr e) =
-        tested-as q (good-admitted (q .line1) g) (good-admitted (q .line2) h) (good-one q o) (good-fine q g h f) refl e ∙ either (slicesFit q (zeros 8112) (zeros 8112) (zeros 3066))
+        tested-as q (good-admitted (q .line1) g) (good-admitted (q .line2) h) (good-one q o) (good-fine q g h f) refl e ∙ either (piecesFit q (zeros 8112) (zeros 8112))
 fault-printed s n place (inChart c w f) = ap walkedText w ∙ chart-refused c n place f
 
 -- ---- every sheet has a fault, or is opened, or each pair of its chart is
@@ -94,23 +94,23 @@ not-short : (b : Bool) → (b ≡ false → ⊥) → b ≡ true
 not-short true h = refl
 not-short false h = absurd (h refl)
 
-pub opens-faultless : (q : Question) → Faultless q → openDef q (zeros 8112) (zeros 8112) (zeros 3066) lent .answer ≡ Open (x q) (testsFor q)
+pub opens-faultless : (q : Question) → Faultless q → openDef q (zeros 8112) (zeros 8112) lent .answer ≡ Open (x q)
 opens-faultless q f =
     tested-as q (good-admitted (q .line1) (f .first)) (good-admitted (q .line2) (f .second)) (good-one q (f .datum)) (good-fine q (f .first) (f .second) (f .question))
     (not-short _ (λ e. f .room (inl e))) (not-short _ (λ e. f .room (inr e)))
 
 pub data Met (s : List ℕ) : Type 0 where
   faulty : (n place : ℕ) → Fault s n place → Met s
-  opens : (q : Question) → walkOf s ≡ walked q → Faultless q → openDef q (zeros 8112) (zeros 8112) (zeros 3066) lent .answer ≡ Open (x q) (testsFor q) → Met s
+  opens : (q : Question) → walkOf s ≡ walked q → Faultless q → openDef q (zeros 8112) (zeros 8112) lent .answer ≡ Open (x q) → Met s
   passes : (c : Chart) → walkOf s ≡ charted c → Passed c → Met s
 
 met-walked : (s : List ℕ) (q : Question) → walkOf s ≡ walked q → Met s
 met-walked s q w =
-    go (isAdmitted (admitOf (q .line1))) refl (isAdmitted (admitOf (q .line2))) refl (dataTest q) refl (isFine (askOf q)) refl (slicesFit q (zeros 8112) (zeros 8112) (zeros 3066)) refl
+    go (isAdmitted (admitOf (q .line1))) refl (isAdmitted (admitOf (q .line2))) refl (dataTest q) refl (isFine (askOf q)) refl (piecesFit q (zeros 8112) (zeros 8112)) refl
     (enough (needed (x q)) (sizes lent)) refl
   where
     go : (a : Bool) → isAdmitted (admitOf (q .line1)) ≡ a → (b : Bool) → isAdmitted (admitOf (q .line2)) ≡ b → (n : Bool) → dataTest q ≡ n → (c : Bool) → isFine (askOf q) ≡ c
-        → (d : Bool) → slicesFit q (zeros 8112) (zeros 8112) (zeros 3066) ≡ d → (e : Bool) → enough (needed (x q)) (sizes lent) ≡ e → Met s
+        → (d : Bool) → piecesFit q (zeros 8112) (zeros 8112) ≡ d → (e : Bool) → enough (needed (x q)) (sizes lent) ≡ e → Met s
     go false ea b eb n en c ec d ed e ee = faulty (admissionNumber (admitOf (q .line1))) 1 (inFirst q w (refused-fault (q .line1) ea) refl)
     go true ea false eb n en c ec d ed e ee =
         faulty (admissionNumber (admitOf (q .line2))) 2 (inSecond q w (admitted-good (q .line1) ea) (refused-fault (q .line2) eb) refl)
@@ -133,7 +133,7 @@ met-walked s q w =
         let h = admitted-good (q .line2) eb in
         opens q w (record { first = g; second = h; datum = one-good q en; question = fine-good q g h ec; room = never ed ee }) (tested-as q ea eb en ec ed ee)
       where
-        never : slicesFit q (zeros 8112) (zeros 8112) (zeros 3066) ≡ true → enough (needed (x q)) (sizes lent) ≡ true → Short q → ⊥
+        never : piecesFit q (zeros 8112) (zeros 8112) ≡ true → enough (needed (x q)) (sizes lent) ≡ true → Short q → ⊥
         never ed ee (inl e) = false≢true (sym e ∙ ed)
         never ed ee (inr e) = false≢true (sym e ∙ ee)
 

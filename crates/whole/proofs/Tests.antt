@@ -23,7 +23,7 @@ use Rattle.states.specs.States.{Memory, sizes, needed, enough}
 use Rattle.opening.specs.declared.Opened.{Opened}
 use Rattle.opening.specs.declared.Opened.the-variants.{Open, BadLine, BadDatum, BadQuestion, NoRoom}
 use Rattle.opening.specs.Asked.{start, stateOf, openMemory}
-use Rattle.opening.specs.Opens.{searchFor, isAdmitted, isFine, slicesFit, piecesIn, treeIn, testsFor, Pushing, pushing, Opening, opening, openDef}
+use Rattle.opening.specs.Opens.{searchFor, isAdmitted, isFine, piecesFit, piecesIn, Pushing, pushing, Opening, opening, openDef}
 use Rattle.opening.proofs.Laws.{is-admitted}
 use Rattle.walks.specs.Words.{wordAt, kindOf, countOf}
 use Rattle.walks.specs.Sheets.{ChartLine, Chart, Walked, walked, charted, refusedAs, badLength, badCount, sizeOf, partOf, wordStands, weightsOf, lineKind, lineAfter, lineStands, rangeAfter, linesAfter, closing, pairOf, chartOf, walkOf}
@@ -223,29 +223,26 @@ module _ (q : Question) where
   abbrev z : List Float
   z = zeros 8112
 
-  abbrev y : List Float
-  y = zeros 3066
-
   abbrev pub x : State
   x = stateOf (searchFor q) (start (searchFor q))
 
   abbrev pub byTests : Bool → Bool → Bool → Bool → Bool → Bool → Opened
   byTests a b n c d e =
-      cond a (cond b (cond n (cond c (cond d (cond e (Open x (testsFor q)) NoRoom) NoRoom) (BadQuestion (askOf q))) BadDatum) (BadLine 2 (admitOf (q .line2)))) (BadLine 1 (admitOf (q .line1)))
+      cond a (cond b (cond n (cond c (cond d (cond e (Open x) NoRoom) NoRoom) (BadQuestion (askOf q))) BadDatum) (BadLine 2 (admitOf (q .line2)))) (BadLine 1 (admitOf (q .line1)))
 
   abbrev pushes : Bool → Opening
   pushes e =
-      let o = cond {A = Pushing} e (pushing (Open x (testsFor q)) (openMemory (searchFor q) lent)) (pushing NoRoom lent) in
-      opening (o .answer) (piecesIn (q .line1) (q .lo1) (q .hi1) z) (piecesIn (q .line2) (q .lo2) (q .hi2) z) (treeIn (q .line2) (q .lo2) (q .hi2) y) (o .memory)
+      let o = cond {A = Pushing} e (pushing (Open x) (openMemory (searchFor q) lent)) (pushing NoRoom lent) in
+      opening (o .answer) (piecesIn (q .line1) (q .lo1) (q .hi1) z) (piecesIn (q .line2) (q .lo2) (q .hi2) z) (o .memory)
 
-  tested : openDef q z z y lent .answer
-      ≡ byTests (isAdmitted (admitOf (q .line1))) (isAdmitted (admitOf (q .line2))) (dataTest q) (isFine (askOf q)) (slicesFit q z z y) (enough (needed x) (sizes lent))
-  tested = go (isAdmitted (admitOf (q .line1))) (isAdmitted (admitOf (q .line2))) (dataTest q) (isFine (askOf q)) (slicesFit q z z y) (enough (needed x) (sizes lent))
+  tested : openDef q z z lent .answer
+      ≡ byTests (isAdmitted (admitOf (q .line1))) (isAdmitted (admitOf (q .line2))) (dataTest q) (isFine (askOf q)) (piecesFit q z z) (enough (needed x) (sizes lent))
+  tested = go (isAdmitted (admitOf (q .line1))) (isAdmitted (admitOf (q .line2))) (dataTest q) (isFine (askOf q)) (piecesFit q z z) (enough (needed x) (sizes lent))
     where
       go : (a b n c d e : Bool)
           → cond {A = Opening} a (cond b
-          (cond n (cond c (cond d (pushes e) (opening NoRoom z z y lent)) (opening (BadQuestion (askOf q)) z z y lent)) (opening BadDatum z z y lent))
-          (opening (BadLine 2 (admitOf (q .line2))) z z y lent)) (opening (BadLine 1 (admitOf (q .line1))) z z y lent) .answer
+          (cond n (cond c (cond d (pushes e) (opening NoRoom z z lent)) (opening (BadQuestion (askOf q)) z z lent)) (opening BadDatum z z lent))
+          (opening (BadLine 2 (admitOf (q .line2))) z z lent)) (opening (BadLine 1 (admitOf (q .line1))) z z lent) .answer
           ≡ byTests a b n c d e
       go true true true true true true = refl
       go true true true true true false = refl
@@ -255,12 +252,12 @@ module _ (q : Question) where
       go true false n c d e = refl
       go false b n c d e = refl
 
-  pub tested-as : {a b n c d e : Bool} → isAdmitted (admitOf (q .line1)) ≡ a → isAdmitted (admitOf (q .line2)) ≡ b → dataTest q ≡ n → isFine (askOf q) ≡ c → slicesFit q z z y ≡ d
-      → enough (needed x) (sizes lent) ≡ e → openDef q z z y lent .answer ≡ byTests a b n c d e
+  pub tested-as : {a b n c d e : Bool} → isAdmitted (admitOf (q .line1)) ≡ a → isAdmitted (admitOf (q .line2)) ≡ b → dataTest q ≡ n → isFine (askOf q) ≡ c → piecesFit q z z ≡ d
+      → enough (needed x) (sizes lent) ≡ e → openDef q z z lent .answer ≡ byTests a b n c d e
   tested-as ea eb en ec ed ee = tested ∙ (λ i. byTests (ea i) (eb i) (en i) (ec i) (ed i) (ee i))
 
   -- what is printed for an answer that is no open search
-  pub said : (s : List ℕ) → walkOf s ≡ walked q → (a : Opened) (l : List ℕ) → openDef q z z y lent .answer ≡ a
+  pub said : (s : List ℕ) → walkOf s ≡ walked q → (a : Opened) (l : List ℕ) → openDef q z z lent .answer ≡ a
       → ((m : Memory) → openedText a m lentOutput ≡ l) → answerOf s ≡ l
   unfolding answerOf linesText
-  said s walk a l e f = ap walkedText walk ∙ ap (λ (b : Opened). openedText b (openDef q z z y lent .memory) lentOutput) e ∙ f (openDef q z z y lent .memory)
+  said s walk a l e f = ap walkedText walk ∙ ap (λ (b : Opened). openedText b (openDef q z z lent .memory) lentOutput) e ∙ f (openDef q z z lent .memory)

@@ -38,9 +38,9 @@ use Rattle.whole.proofs.Charts.{Passed}
 use Rattle.whole.proofs.Refusals.{Met, faulty, opens, passes, opens-faultless, met, fault-numbered, fault-printed}
 
 -- ---- an open search: the loop ends, and its report is printed
-few-records : (q : Question) (x : State) (n : ℕ) → openDef q (zeros 8112) (zeros 8112) (zeros 3066) lent .answer ≡ Open x n → recordsOf (x .tally) * 10 ≤ length (zeros 8190)
-few-records q x n e =
-    opened-fresh q (zeros 8112) (zeros 8112) (zeros 3066) lent x n (λ (y : State) (m : Memory). recordsOf (y .tally) * 10 ≤ length (zeros 8190))
+few-records : (q : Question) (x : State) → openDef q (zeros 8112) (zeros 8112) lent .answer ≡ Open x → recordsOf (x .tally) * 10 ≤ length (zeros 8190)
+few-records q x e =
+    opened-fresh q (zeros 8112) (zeros 8112) lent x (λ (y : State) (m : Memory). recordsOf (y .tally) * 10 ≤ length (zeros 8190))
     (λ F room. room-of (searchFor q) (sizes lent) room .raw) e
 
 marks-room : (n : ℕ) → n * 10 ≤ length (zeros 8190) → n ≤ length zeroMarks
@@ -50,18 +50,18 @@ marks-room n h =
     let b = length-replicate {A = ℕ} 819 0 in
     omega (arith, h, a, b)
 
-module _ (q : Question) (good : Faultless q) (x : State) (n : ℕ) (e : openDef q (zeros 8112) (zeros 8112) (zeros 3066) lent .answer ≡ Open x n) where
+module _ (q : Question) (good : Faultless q) (x : State) (e : openDef q (zeros 8112) (zeros 8112) lent .answer ≡ Open x) where
   abbrev o : Opening
-  o = openDef q (zeros 8112) (zeros 8112) (zeros 3066) lent
+  o = openDef q (zeros 8112) (zeros 8112) lent
 
   pair-report : PairReport q
   unfolding linesText searchText reportText
   pair-report =
-      let L = loop-ends q (zeros 8112) (zeros 8112) (zeros 3066) lent x n e in
+      let L = loop-ends q (zeros 8112) (zeros 8112) lent x e in
       let y = stateOf (searchFor q) (looped (searchFor q) (sizes lent)) in
       let m = runDef geometry x (o .memory) .memory in
       let r = reportDef geometry y m lentOutput in
-      let R = loop-reports q (zeros 8112) (zeros 8112) (zeros 3066) lent x y n e (L .answer) lentOutput (few-records q x n e) (marks-room _ (few-records q x n e)) in
+      let R = loop-reports q (zeros 8112) (zeros 8112) lent x y e (L .answer) lentOutput (few-records q x e) (marks-room _ (few-records q x e)) in
       record {
         faultless = good;
         reporting = r;
@@ -70,7 +70,7 @@ module _ (q : Question) (good : Faultless q) (x : State) (n : ℕ) (e : openDef 
             ap (λ (a : Opened). openedText a (o .memory) lentOutput) e ∙ ap (λ (a : Stepped). steppedText a m lentOutput) (L .answer)
             ∙ ap (λ (a : Reported). reportedText a (r .output)) (R .told);
         clear =
-            λ c. complete-is-clear q (zeros 8112) (zeros 8112) (zeros 3066) lent x y n e (L .answer) lentOutput (R .counts) (R .regions)
+            λ c. complete-is-clear q (zeros 8112) (zeros 8112) lent x y e (L .answer) lentOutput (R .counts) (R .regions)
             (R .told ∙ ap (λ (w : Word). Told w (R .counts) (R .regions)) c);
       }
 
@@ -107,7 +107,7 @@ module _ (c : Chart) where
 
   line-reports : (ls : List ChartLine) → All (λ (l : ChartLine). Faultless (pairFor c l)) ls → LineReports c ls
   line-reports [] h = tt
-  line-reports (l ∷ ls) h = (pair-report (pairFor c l) (h .0) _ _ (opens-faultless (pairFor c l) (h .0)), line-reports ls (h .1))
+  line-reports (l ∷ ls) h = (pair-report (pairFor c l) (h .0) _ (opens-faultless (pairFor c l) (h .0)), line-reports ls (h .1))
 
   chart-printed : (s : List ℕ) → walkOf s ≡ charted c → Passed c → Printed s
   unfolding answerOf chartText
@@ -124,7 +124,7 @@ whole s = go (met s)
   where
     go : Met s → Printed s
     go (faulty n place f) = refused n place (fault-numbered s n place f) f (fault-printed s n place f)
-    go (opens q e g h) = reported q e (pair-report q g _ _ h) (ap walkedText e)
+    go (opens q e g h) = reported q e (pair-report q g _ h) (ap walkedText e)
     go (passes c e p) = chart-printed c s e p
 
 pub last-lines-differ : LastLinesDiffer

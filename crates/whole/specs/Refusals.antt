@@ -11,7 +11,7 @@ use Rattle.lines.specs.Lines.{Line, Question}
 use Rattle.facts.specs.Faults.{LineFault, FirstLineFault, Fault23, OneDatum, Fault15, Fault16, Fault17, Fault18, QuestionFault, FirstQuestionFault}
 use Rattle.states.specs.States.{Memory, sizes, needed, enough}
 use Rattle.opening.specs.Asked.{start, stateOf}
-use Rattle.opening.specs.Opens.{openedNumber, searchFor, slicesFit, openDef}
+use Rattle.opening.specs.Opens.{openedNumber, searchFor, piecesFit, openDef}
 use Rattle.walks.specs.Sheets.{Chart, walked, charted, refusedAs, walkOf}
 use Rattle.printing.specs.Printed.{refusalLine}
 use Rattle.sheet.specs.Answers.{zeros, lent}
@@ -42,9 +42,9 @@ GoodData q = OneDatum (q .line1 .datum) (q .line2 .datum)
 abbrev pub GoodQuestion : Question → Type 0
 GoodQuestion q = (n : ℕ × ℕ) → QuestionFault n q → ⊥
 
--- 19: a slice that the sheet program lends is shorter than needed, for the pieces and the tree or for the search
+-- 19: a slice that the sheet program lends is shorter than needed, for the pieces or for the search
 abbrev pub Short : Question → Type 0
-Short q = (slicesFit q (zeros 8112) (zeros 8112) (zeros 3066) ≡ false) ⊎ (enough (needed (stateOf (searchFor q) (start (searchFor q)))) (sizes lent) ≡ false)
+Short q = (piecesFit q (zeros 8112) (zeros 8112) ≡ false) ⊎ (enough (needed (stateOf (searchFor q) (start (searchFor q)))) (sizes lent) ≡ false)
 
 -- no fault in the lines and the question, and each lent slice is long enough
 pub record Faultless (q : Question) : Type 0 where
@@ -90,5 +90,5 @@ FaultPrinted = (s : List ℕ) (n place : ℕ) → Fault s n place → answerOf s
 
 -- "When, and only then", number 23: an opening, whatever it is lent, answers 23 exactly if both lines are admitted and their data are not one number from 1 to 9,999.
 abbrev pub DatumTable : Type 0
-DatumTable = (q : Question) (p1 p2 tree : List Float) (u : Memory)
-    → (openedNumber (openDef q p1 p2 tree u .answer) ≡ 23) ↔ (GoodLine (q .line1) × GoodLine (q .line2) × DatumFault q)
+DatumTable = (q : Question) (p1 p2 : List Float) (u : Memory)
+    → (openedNumber (openDef q p1 p2 u .answer) ≡ 23) ↔ (GoodLine (q .line1) × GoodLine (q .line2) × DatumFault q)
