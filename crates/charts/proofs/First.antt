@@ -45,7 +45,7 @@ module _ (q : Question) where
       let o = cond {A = Pushing} e (pushing (Open x) (openMemory (searchFor q) lent)) (pushing NoRoom lent) in
       opening (o .answer) (piecesIn (q .line1) (q .lo1) (q .hi1) (zeros 8112)) (piecesIn (q .line2) (q .lo2) (q .hi2) (zeros 8112)) (o .memory)
 
-  opened-by : openedOn q
+  pub opened-by : openedOn q
       ≡ byTests (isAdmitted (admitOf (q .line1))) (isAdmitted (admitOf (q .line2))) (oneDatum (q .line1 .datum) (q .line2 .datum)) (askOf q)
       (piecesFit q (zeros 8112) (zeros 8112)) (enough (needed x) (sizes lent))
   unfolding openedOn

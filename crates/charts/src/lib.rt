@@ -230,8 +230,9 @@ fn pair_start(s: &[u8], w: Sheet, out: &mut [u8]) -> Instalment
     no_more(p.length, true)
 }
 
-// Instalment `k`, counted from 0, of the answer to any bytes, from the front of `out`; `good` is what the instalment before it answered. In a buffer that the
-// longest instalment doesn't fit nothing is written.
+// Instalment `k`, counted from 0, of the answer to any bytes, from the front of `out`; `good` is what the instalment before it answered. The tests of a chart
+// are made for the first one alone: a further one is asked for only where the one before it said that more follow. In a buffer that the longest instalment
+// doesn't fit nothing is written.
 pub fn next(s: &[u8], k: usize, good: bool, out: &mut [u8]) -> Instalment
     ensures { λ r. ⌜ Given (now (s .entry)) k good (now (out .entry)) (now (out .exit)) r ⌝ }
 {

@@ -10,7 +10,7 @@ use lib.Dec.{ltb, leb, eqb, lit<, lit≤}
 use lib.ListN.{length}
 use Rattle.lists.specs.Members.{All}
 use Rattle.lists.specs.Tests.{eachTwo}
-use Rattle.lists.proofs.Members.{all-append}
+use Rattle.lists.proofs.Members.{all-append, all-map}
 use Rattle.floats.specs.Floats.{zero64, within}
 use Rattle.lines.specs.Admit.{admitOf, two24}
 use Rattle.knots.specs.Knots.{boundsOf, breaksOf}
@@ -43,10 +43,6 @@ each-all P f Q g (l ∷ ls) k h = let z = all-parts P (f k l) (eachLine f (suc k
 all-both : {A : Type 0} (P Q : A → Type 0) (l : List A) → All P l → All Q l → All (λ (y : A). P y × Q y) l
 all-both P Q [] p q = tt
 all-both P Q (y ∷ l) p q = ((p .0, q .0), all-both P Q l (p .1) (q .1))
-
-all-to : {A : Type 0} (P Q : A → Type 0) (l : List A) → ((y : A) → P y → Q y) → All P l → All Q l
-all-to P Q [] f p = tt
-all-to P Q (y ∷ l) f p = (f y (p .0), all-to P Q l f (p .1))
 
 module _ (c : Chart) where
   -- ---- a row's test tells whether it is met
@@ -259,8 +255,8 @@ module _ (c : Chart) where
       let lines = each-all (Unmet c) asked (λ l. GoodLine (l .line) × GoodData (pairFor c l)) (λ k l h. (line-good k l (h .0), datum-good k l (h .1 .0))) (c .lines) 2 b in
       let ranges = each-all (Unmet c) (λ k l. ofRange k l ∷ []) (λ l. Fault15 (l .line) (l .lo) (l .hi) → ⊥) (λ k l h z. h .0 15 k (refl, refl, z)) (c .lines) 2 e in
       let breaks = each-all (Unmet c) (λ k l. ofBreaks k l ∷ []) (λ l. Fault18 (l .line) (l .lo) (l .hi) → ⊥) (λ k l h z. h .0 18 k (refl, refl, z)) (c .lines) 2 g in
-      all-to (λ l. (GoodLine (l .line) × GoodData (pairFor c l)) × ((Fault15 (l .line) (l .lo) (l .hi) → ⊥) × (Fault18 (l .line) (l .lo) (l .hi) → ⊥))) Ready (c .lines)
-      (λ l z. (line-good 1 (c .track) (a .1 .0), z .0 .0, z .0 .1, question-good l (d .0) (z .1 .0) (f .0) (f .1 .0) (f .1 .1 .0) (z .1 .1)))
+      all-map (λ l. (GoodLine (l .line) × GoodData (pairFor c l)) × ((Fault15 (l .line) (l .lo) (l .hi) → ⊥) × (Fault18 (l .line) (l .lo) (l .hi) → ⊥))) Ready
+      (λ l z. (line-good 1 (c .track) (a .1 .0), z .0 .0, z .0 .1, question-good l (d .0) (z .1 .0) (f .0) (f .1 .0) (f .1 .1 .0) (z .1 .1))) (c .lines)
       (all-both (λ l. GoodLine (l .line) × GoodData (pairFor c l)) (λ l. (Fault15 (l .line) (l .lo) (l .hi) → ⊥) × (Fault18 (l .line) (l .lo) (l .hi) → ⊥)) (c .lines) lines
       (all-both (λ l. Fault15 (l .line) (l .lo) (l .hi) → ⊥) (λ l. Fault18 (l .line) (l .lo) (l .hi) → ⊥) (c .lines) ranges breaks))
 
@@ -294,8 +290,8 @@ module _ (c : Chart) where
       let f = all-parts (Unmet c) (ofGap ∷ ofSplits ∷ ofBreaks 1 (c .track) ∷ []) fromBreaks (e .1) in
       let g = all-parts (Unmet c) (eachLine (λ k l. ofBreaks k l ∷ []) 2 (c .lines)) rooms (f .1) in
       let fit = each-all (Unmet c) (λ k l. ofRoom l ∷ []) (λ l. Short (pairFor c l) → ⊥) (λ k l h z. h .0 19 0 (refl, refl, z)) (c .lines) 2 (g .1) in
-      all-to (λ l. Ready l × (Short (pairFor c l) → ⊥)) (λ l. Faultless (pairFor c l)) (c .lines)
-      (λ l z. record { first = z .0 .0; second = z .0 .1; datum = z .0 .2; question = z .0 .3; room = z .1 })
+      all-map (λ l. Ready l × (Short (pairFor c l) → ⊥)) (λ l. Faultless (pairFor c l))
+      (λ l z. record { first = z .0 .0; second = z .0 .1; datum = z .0 .2; question = z .0 .3; room = z .1 }) (c .lines)
       (all-both Ready (λ l. Short (pairFor c l) → ⊥) (c .lines) (ready (a .0) (b .0) (d .0) (e .0) (f .0) (g .0)) fit)
 
   -- a row is met first; or none is, there are 1 to 64 lines, and no pair has a fault

@@ -22,14 +22,15 @@ use Rattle.states.specs.declared.State.{State}
 use Rattle.states.specs.States.{Memory, sizes, needed, enough}
 use Rattle.opening.specs.declared.Opened.{Opened}
 use Rattle.opening.specs.declared.Opened.the-variants.{Open, BadLine, BadDatum, BadQuestion, NoRoom}
-use Rattle.opening.specs.Asked.{start, stateOf, openMemory}
-use Rattle.opening.specs.Opens.{searchFor, isAdmitted, isFine, piecesFit, piecesIn, Pushing, pushing, Opening, opening, openDef}
+use Rattle.opening.specs.Asked.{start, stateOf}
+use Rattle.opening.specs.Opens.{searchFor, isAdmitted, isFine, piecesFit, openDef}
 use Rattle.opening.proofs.Laws.{is-admitted}
 use Rattle.walks.specs.Words.{wordAt, kindOf, countOf}
 use Rattle.walks.specs.Sheets.{ChartLine, Chart, Walked, walked, charted, refusedAs, badLength, badCount, sizeOf, partOf, wordStands, weightsOf, lineKind, lineAfter, lineStands, rangeAfter, linesAfter, closing, pairOf, chartOf, walkOf}
 use Rattle.printing.specs.Printed.{refusalLine}
-use Rattle.sheet.specs.Answers.{zeros, lent, openedText, linesText, lentOutput}
+use Rattle.sheet.specs.Answers.{zeros, lent, openedText, linesText, openedOn, lentOutput}
 use Rattle.charts.specs.Answers.{walkedText, answerOf}
+use Rattle.charts.proofs.First.{opened-by}
 use Rattle.whole.specs.Refusals.{OneOf, Numbered, DatumFault, GoodLine, GoodData, GoodQuestion, Short, Faultless, Fault, inSheet, inFirst, inSecond, inData, inQuestion, inMemory, FaultPrinted}
 
 -- ---- the walk refuses with 1, 2 or 3
@@ -230,27 +231,10 @@ module _ (q : Question) where
   byTests a b n c d e =
       cond a (cond b (cond n (cond c (cond d (cond e (Open x) NoRoom) NoRoom) (BadQuestion (askOf q))) BadDatum) (BadLine 2 (admitOf (q .line2)))) (BadLine 1 (admitOf (q .line1)))
 
-  abbrev pushes : Bool → Opening
-  pushes e =
-      let o = cond {A = Pushing} e (pushing (Open x) (openMemory (searchFor q) lent)) (pushing NoRoom lent) in
-      opening (o .answer) (piecesIn (q .line1) (q .lo1) (q .hi1) z) (piecesIn (q .line2) (q .lo2) (q .hi2) z) (o .memory)
-
   tested : openDef q z z lent .answer
       ≡ byTests (isAdmitted (admitOf (q .line1))) (isAdmitted (admitOf (q .line2))) (dataTest q) (isFine (askOf q)) (piecesFit q z z) (enough (needed x) (sizes lent))
-  tested = go (isAdmitted (admitOf (q .line1))) (isAdmitted (admitOf (q .line2))) (dataTest q) (isFine (askOf q)) (piecesFit q z z) (enough (needed x) (sizes lent))
-    where
-      go : (a b n c d e : Bool)
-          → cond {A = Opening} a (cond b
-          (cond n (cond c (cond d (pushes e) (opening NoRoom z z lent)) (opening (BadQuestion (askOf q)) z z lent)) (opening BadDatum z z lent))
-          (opening (BadLine 2 (admitOf (q .line2))) z z lent)) (opening (BadLine 1 (admitOf (q .line1))) z z lent) .answer
-          ≡ byTests a b n c d e
-      go true true true true true true = refl
-      go true true true true true false = refl
-      go true true true true false e = refl
-      go true true true false d e = refl
-      go true true false c d e = refl
-      go true false n c d e = refl
-      go false b n c d e = refl
+  unfolding openedOn
+  tested = opened-by q
 
   pub tested-as : {a b n c d e : Bool} → isAdmitted (admitOf (q .line1)) ≡ a → isAdmitted (admitOf (q .line2)) ≡ b → dataTest q ≡ n → isFine (askOf q) ≡ c → piecesFit q z z ≡ d
       → enough (needed x) (sizes lent) ≡ e → openDef q z z lent .answer ≡ byTests a b n c d e
