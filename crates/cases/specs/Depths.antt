@@ -12,7 +12,7 @@ use Rattle.states.specs.States.{Memory, memory}
 use Rattle.nodes.specs.Nets.{geometry}
 use Rattle.search.specs.declared.Stepped.{Stepped}
 use Rattle.search.specs.declared.Stepped.the-variants.{Next, Ended, NoRoom}
-use Rattle.search.specs.Steps.{Stepping, stepDef}
+use Rattle.search.specs.Steps.{stepDef}
 use Rattle.floats.specs.Floats.{zero64, one64}
 use Rattle.cases.specs.Cases.{two64}
 

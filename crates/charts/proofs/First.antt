@@ -1,5 +1,5 @@
 -- The openings of a chart's pairs find what the order of all tests meets first. Assumes nothing.
-use mathlib.Core.Path.{_≡_, refl, sym, ap, _∙_, subst}
+use mathlib.Core.Path.{_≡_, refl, sym, ap, _∙_}
 use mathlib.Core.Bool.{Bool, true, false, not, _&&_, cond, false≢true}
 use mathlib.Core.List.{List, [], _∷_, _++_, map, append-nil}
 use Prim.Native.Nat.{ℕ, zero, suc, _≤_}
@@ -7,7 +7,6 @@ use native.Mathlib.Omega.{arith}
 use borrow.Author.Tests.{ne-eqb}
 use lib.Dec.{ltb, leb, eqb, lit≤}
 use lib.ListN.{length}
-use lib.Ieee.{Float}
 use Rattle.lists.specs.Tests.{eachTwo}
 use Rattle.floats.specs.Floats.{zero64, within}
 use Rattle.lines.specs.declared.Admission.{Admission}
@@ -24,7 +23,7 @@ use Rattle.states.specs.States.{sizes, needed, enough}
 use Rattle.opening.specs.declared.Opened.{Opened}
 use Rattle.opening.specs.declared.Opened.the-variants.{Open, BadLine, BadDatum, BadQuestion, NoRoom}
 use Rattle.opening.specs.Asked.{start, stateOf, openMemory}
-use Rattle.opening.specs.Opens.{searchFor, isAdmitted, isFine, openedNumber, openedLine, piecesFit, piecesIn, Pushing, pushing, Opening, opening, openDef}
+use Rattle.opening.specs.Opens.{searchFor, isAdmitted, isFine, openedNumber, openedLine, piecesFit, piecesIn, Pushing, pushing, Opening, opening}
 use Rattle.walks.specs.Sheets.{ChartLine, Chart}
 use Rattle.sheet.specs.Answers.{zeros, lent, openedOn}
 use Rattle.charts.specs.Charts.{Tested, tested, firstMet, pairFor, countNumber, lineNumber, datumNumber, rangeNumber, gapNumber, splitsNumber, breaksNumber, roomNumber, Row, ofCount, ofLine, ofDatum, ofRange, ofGap, ofSplits, ofBreaks, ofRoom, eachLine as eachRow, order, testOf, tests}

@@ -1,17 +1,16 @@
 -- The instalments of every sheet, one after the other, are its answer. Assumes nothing.
-use mathlib.Core.Path.{_≡_, refl, sym, ap, _∙_, subst}
+use mathlib.Core.Path.{_≡_, refl, sym, ap, _∙_}
 use mathlib.Core.Bool.{Bool, true, false, _&&_, cond, false≢true}
 use mathlib.Core.List.{List, [], _∷_, _++_, append-assoc, append-nil}
-use Prim.Native.Nat.{ℕ, zero, suc, _≤_, _<_}
+use Prim.Native.Nat.{ℕ, zero, suc, _≤_}
 use native.Mathlib.Omega.{arith}
-use borrow.Author.Tests.{leb-true, eqb-true, le-leb}
+use borrow.Author.Tests.{leb-true, le-leb}
 use lib.Dec.{leb, eqb}
 use lib.ListN.{length, drop}
 use Rattle.walks.specs.Sheets.{ChartLine, Chart, Walked, walked, charted, refusedAs, walkOf}
 use Rattle.printing.specs.Printed.{refusalLine}
 use Rattle.sheet.specs.Answers.{linesText}
-use Rattle.states.proofs.Tests.{and-first, and-second}
-use Rattle.charts.specs.Charts.{Tested, tested, firstMet, countNumber, tests, pairFor, linesComplete, lastLine, allComplete, reportsText, restText, testedText, chartText}
+use Rattle.charts.specs.Charts.{Tested, tested, firstMet, tests, pairFor, linesComplete, lastLine, allComplete, reportsText, restText, testedText, chartText}
 use Rattle.charts.specs.Answers.{Part, last, linePart, chartPart, firstPart, walkedPart, partOf, joined, walkedText, answerOf, Instalments}
 
 -- ---- lists

@@ -1,14 +1,14 @@
 -- Ranks, places, and which of two tests comes first. Assumes nothing.
 use mathlib.Core.Path.{_≡_, refl, sym, ap, _∙_}
 use mathlib.Core.Bool.{Bool, true, false, cond}
-use mathlib.Core.List.{List, [], _∷_}
+use mathlib.Core.List.{List}
 use Prim.Native.Nat.{ℕ, _≤_, _<_}
 use native.Mathlib.Omega.{arith}
 use borrow.Author.Tests.{eq-eqb, ne-eqb, ltb-true, ltb-false, lt-ltb, le-ltb}
 use lib.Dec.{eqb, ltb}
 use Rattle.texts.specs.Texts.{Wrote}
 use Rattle.charts.specs.Charts.{Tested, tested, lastLine}
-use Rattle.charts.specs.Found.{placeOf, rankOf, earlierOf}
+use Rattle.charts.specs.Found.{rankOf, earlierOf}
 
 module _ (n p : ℕ) where
   pub rank-none : n ≡ 0 → 9 ≡ rankOf n p

@@ -11,14 +11,14 @@ use lib.Ieee.{Float}
 use Rattle.lists.specs.Parts.{patch}
 use Rattle.lines.specs.Lines.{Question}
 use Rattle.opening.specs.declared.Question.{Question as Asking}
-use Rattle.opening.specs.Opens.{questionOf, openedNumber, openedLine}
+use Rattle.opening.specs.Opens.{questionOf}
 use Rattle.walks.specs.declared.Line.{Line}
 use Rattle.walks.specs.declared.Sheet.{Sheet}
 use Rattle.walks.specs.Words.{floatAt}
 use Rattle.walks.specs.Sheets.{ChartLine, Chart, chartOf}
-use Rattle.walks.specs.Places.{LineInside, ChartLineInside, LinesInside, lineIn, lineAt, chartLineAt, behindAt, linesAt, chartIn, questionIn}
+use Rattle.walks.specs.Places.{LineInside, ChartLineInside, LinesInside, lineIn, lineAt, chartLineAt, behindAt, linesAt, chartIn}
 use Rattle.sheet.specs.declared.Pair.{Pair}
-use Rattle.sheet.specs.Answers.{askingAt, openedOn, Answered}
+use Rattle.sheet.specs.Answers.{askingAt, Answered}
 use Rattle.charts.specs.Charts.{Tested, tested, pairFor, linesComplete}
 use Rattle.charts.specs.Found.{placeOf, openedAt, earlierOf, linesMet, chartMet, linePlace}
 use Rattle.charts.specs.Answers.{linePart, Left}

@@ -8,7 +8,6 @@ use borrow.Author.Tests.{ltb-false, lt-ltb, le-ltb, le-leb, lt-leb, eq-eqb, ne-e
 use lib.Dec.{T, ltb, leb, eqb}
 use lib.ListN.{length, drop}
 use lib.Ieee.{Float}
-use Rattle.lists.specs.Parts.{patch}
 use Rattle.lines.specs.Lines.{Question}
 use Rattle.opening.specs.declared.Question.{Question as Asking}
 use Rattle.opening.specs.Opens.{questionOf}
@@ -22,7 +21,7 @@ use Rattle.texts.specs.Texts.{Wrote}
 use Rattle.sheet.specs.declared.Pair.{Pair}
 use Rattle.sheet.specs.Answers.{longest, askingAt, linesText, Answered}
 use Rattle.charts.specs.declared.Instalment.{Instalment}
-use Rattle.charts.specs.Charts.{Tested, tested, firstMet, tests, lastLine}
+use Rattle.charts.specs.Charts.{Tested, firstMet, tests, lastLine}
 use Rattle.charts.specs.Found.{chartMet}
 use Rattle.charts.specs.Answers.{Part, last, linePart, chartPart, firstPart, walkedPart, partOf, Left, Given}
 use Rattle.charts.proofs.First.{first-found}

@@ -1,5 +1,5 @@
 -- A report's first byte tells whether it says complete. Assumes nothing.
-use mathlib.Core.Path.{_≡_, refl, sym, ap, _∙_}
+use mathlib.Core.Path.{_≡_, refl}
 use mathlib.Core.Bool.{Bool, false}
 use mathlib.Core.List.{List, _++_}
 use Prim.Native.Nat.{ℕ}

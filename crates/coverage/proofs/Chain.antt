@@ -5,7 +5,7 @@ use mathlib.Core.Bool.{Bool, true, false, _&&_, cond}
 use Prim.Native.Nat.{ℕ, suc, _+_, _*_, _≤_, min}
 use native.Mathlib.Nat.{le-refl, mul-le-mul-right, add-mul}
 use native.Mathlib.Omega.{arith}
-use lib.Dec.{T, leb}
+use lib.Dec.{T}
 use lib.ListN.{length, take, drop, length-append, length-take, take-append-drop, length-reverse}
 use lib.Seq.{length-take-le, take-append-le, take-at, take-take}
 use lib.Ieee.{Float}

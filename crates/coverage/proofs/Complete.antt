@@ -1,7 +1,7 @@
 -- The loop gives each step the search's own verdict: it comes to the end, and every node that it settled passes the tests. Assumes nothing.
 use mathlib.Core.Path.{_≡_, refl, ap, sym, _∙_, subst}
 use mathlib.Core.Logic.{_⊎_, inl, inr}
-use mathlib.Core.List.{List, [], _∷_, _++_}
+use mathlib.Core.List.{List, [], _∷_}
 use mathlib.Core.Bool.{Bool, true, false, _&&_, cond, false≢true}
 use Prim.Native.Nat.{ℕ, zero, suc, _+_, _*_, _≤_, _<_, min}
 use borrow.Author.Tests.{le-leb}
@@ -43,10 +43,10 @@ use Rattle.machine.specs.Marks.{Marked, marksOf}
 use Rattle.machine.proofs.Marks.{marked-only}
 use Rattle.stretches.specs.Stretches.{nearAt}
 use Rattle.stretches.proofs.Marked.{region-marks}
-use Rattle.opening.specs.Asked.{Asked, shape, pieces1, pieces2, pairsOf, start, stateOf, resultOf, rawList, netOf1, netOf2, openMemory, recordsFor}
+use Rattle.opening.specs.Asked.{Asked, shape, pieces1, pieces2, start, stateOf, resultOf, rawList, netOf1, netOf2, openMemory, recordsFor}
 use Rattle.opening.specs.Opens.{searchFor}
 use Rattle.coverage.specs.Calls.{Call, step, own as ownCall, Answer, stepped, reported, Outcome, stepOutcome, reportOutcome}
-use Rattle.coverage.specs.Rules.{Ruled, lent, suffices, sufficesOwn, stepRule, ownRule, afterOwn, callRule, ruleAll}
+use Rattle.coverage.specs.Rules.{Ruled, lent, suffices, sufficesOwn, stepRule, ownRule, afterOwn, ruleAll}
 use Rattle.coverage.specs.Claim.{Fine, GoodReport}
 use Rattle.facts.proofs.Reflect.{as-true}
 use Rattle.states.proofs.Tests.{enough-own}

@@ -5,7 +5,7 @@ use mathlib.Core.List.{List, [], _∷_, _++_, map, reverse, append-assoc}
 use mathlib.Core.Bool.{Bool, true, false, not, _&&_, cond, and-comm}
 use Prim.Native.Nat.{ℕ, zero, suc, _+_, _-_, _*_, _≤_, _^_}
 use native.Mathlib.Omega.{arith}
-use lib.Dec.{T, leb, lit<}
+use lib.Dec.{T, lit<}
 use lib.ListN.{length, take, drop, replicate}
 use lib.Seq.{take-at}
 use lib.Ieee.{Float, le}
@@ -17,7 +17,7 @@ use Rattle.verdicts.specs.declared.Test.{Test}
 use Rattle.verdicts.specs.declared.Verdict.the-variants.{Settled, Split, Unseparated}
 use Rattle.verdicts.specs.declared.Choice.{Choice}
 use Rattle.verdicts.specs.declared.Choice.the-variants.{First, Second, Neither}
-use Rattle.machine.specs.Machine.{Node, Settling, Search, half, partOf, depth1, depth2, Shallow, choiceOf, InNode, ended, splitAlong, divide, onTop, advance, OwnVerdict, notSettled, settledBy, rememberedAs, remember}
+use Rattle.machine.specs.Machine.{Node, Settling, Search, half, partOf, Shallow, choiceOf, InNode, ended, divide, onTop, advance, notSettled, settledBy, rememberedAs, remember}
 use Rattle.machine.specs.Merge.{merged}
 use Rattle.machine.specs.Covered.{Covered, byBoxes, bySettled, byGiven, byWaiting}
 use Rattle.machine.proofs.Cover.{divide-settled, divide-own, deep-shallow, at-most, tags-sum, Halving, SoundNode, cover-advance, sound-advance, sound-fresh, cover-fresh, sound-descend}

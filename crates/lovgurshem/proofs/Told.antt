@@ -1,6 +1,5 @@
 -- The opening is its two acts one after the other, so what the first tells and refuses is the opening's. Assumes nothing.
 use mathlib.Core.Path.{_≡_, refl, sym, ap, subst, _∙_}
-use mathlib.Core.Bool.{true}
 use mathlib.Core.List.{List, [], _∷_}
 use Prim.Native.Nat.{ℕ, _+_, _≤_}
 use native.Mathlib.Omega.{arith}
@@ -9,7 +8,7 @@ use lib.ListN.{length, getD, set}
 use lib.Ieee.{Float}
 use Rattle.lines.specs.Lines.{Question}
 use Rattle.states.specs.declared.State.{State}
-use Rattle.states.specs.States.{Memory, memory, sizes, needed, enough, firstState}
+use Rattle.states.specs.States.{Memory, sizes, needed, enough, firstState}
 use Rattle.opening.specs.declared.Opened.{Opened}
 use Rattle.opening.specs.declared.Opened.the-variants.{Open, BadLine, BadDatum, BadQuestion, NoRoom}
 use Rattle.opening.specs.declared.Examined.{Examined}

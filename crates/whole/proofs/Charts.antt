@@ -16,17 +16,17 @@ use Rattle.lines.specs.Admit.{admitOf, two24}
 use Rattle.knots.specs.Knots.{boundsOf, breaksOf}
 use Rattle.questions.specs.Questions.{rangeFits, parted}
 use Rattle.lines.specs.Lines.{Question}
-use Rattle.facts.specs.Faults.{Fault15, Fault16, Fault17, Fault18, QuestionFault}
+use Rattle.facts.specs.Faults.{Fault15, Fault18}
 use Rattle.facts.proofs.Facts.{line-table}
 use Rattle.facts.proofs.Reflect.{Tests, of-lt}
 use Rattle.facts.proofs.Questions.{test15, test16, test18}
 use Rattle.states.specs.States.{sizes, needed, enough}
 use Rattle.opening.specs.declared.Opened.{Opened}
 use Rattle.opening.specs.declared.Opened.the-variants.{Open, NoRoom}
-use Rattle.opening.specs.Opens.{isAdmitted, isFine, openedNumber, piecesFit}
+use Rattle.opening.specs.Opens.{isAdmitted, openedNumber, piecesFit}
 use Rattle.walks.specs.Sheets.{ChartLine, Chart}
 use Rattle.sheet.specs.Answers.{zeros, lent, openedOn}
-use Rattle.charts.specs.Charts.{Tested, tested, pairFor, firstMet, countNumber, lineNumber, datumNumber, Row, ofCount, ofLine, ofDatum, ofRange, ofGap, ofSplits, ofBreaks, ofRoom, eachLine, order, testOf, tests}
+use Rattle.charts.specs.Charts.{Tested, tested, pairFor, firstMet, lineNumber, Row, ofCount, ofLine, ofDatum, ofRange, ofGap, ofSplits, ofBreaks, ofRoom, eachLine, order, testOf, tests}
 use Rattle.whole.specs.Refusals.{OneOf, Numbered, GoodLine, GoodData, GoodQuestion, Short, Faultless, Meets, Unmet, FirstOf}
 use Rattle.whole.proofs.Tests.{x, dataTest, lineNumbers, line-number, line-above, not-zero, over-zero, fault-refused, refused-fault, admitted-good, good-admitted, fault-off, off-fault, one-good, good-one, good-fine, tested-as}
 

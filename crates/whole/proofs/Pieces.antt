@@ -16,7 +16,7 @@ use Rattle.lines.specs.Admit.{two24}
 use Rattle.knots.specs.Knots.{boundsOf, breaksOf}
 use Rattle.questions.specs.declared.Asked.{Asked as AskAnswer}
 use Rattle.questions.specs.declared.Asked.the-variants.{RangeOutOfBounds, GapOutOfRange, TooManySplits, BreaksTooClose}
-use Rattle.questions.specs.Questions.{rangeFits, parted, askWithin, askOf}
+use Rattle.questions.specs.Questions.{rangeFits, parted, askWithin}
 use Rattle.facts.specs.Spans.{Doubles}
 use Rattle.facts.proofs.Facts.{line-table, question-table, pieces-in-spans}
 use Rattle.opening.specs.Opens.{isFine}

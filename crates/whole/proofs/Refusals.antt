@@ -1,11 +1,10 @@
 -- Each fault of a sheet has its number and place, and is printed with them; a sheet without one is opened, or each pair of its chart. Assumes nothing.
 use mathlib.Core.Path.{_≡_, refl, sym, ap, _∙_, subst}
 use mathlib.Core.Logic.{_⊎_, inl, inr}
-use mathlib.Core.List.{List, [], _∷_}
+use mathlib.Core.List.{List}
 use mathlib.Core.Bool.{Bool, true, false, cond, false≢true}
-use Prim.Native.Nat.{ℕ, _≤_, _<_}
+use Prim.Native.Nat.{ℕ, _≤_}
 use native.Mathlib.Omega.{arith}
-use lib.Dec.{eqb}
 use Rattle.lines.specs.Admit.{admissionNumber, admitOf}
 use Rattle.lines.specs.Lines.{Question}
 use Rattle.questions.specs.Questions.{askedNumber, askedLine, askOf}
@@ -16,9 +15,9 @@ use Rattle.opening.specs.Opens.{isAdmitted, isFine, piecesFit, openDef}
 use Rattle.walks.specs.Sheets.{Chart, Walked, walked, charted, refusedAs, walkOf}
 use Rattle.printing.specs.Printed.{refusalLine}
 use Rattle.sheet.specs.Answers.{zeros, lent}
-use Rattle.charts.specs.Charts.{Tested, tested, firstMet, order, tests, restText, testedText, chartText}
+use Rattle.charts.specs.Charts.{Tested, tested, order, restText, testedText, chartText}
 use Rattle.charts.specs.Answers.{walkedText, answerOf}
-use Rattle.whole.specs.Refusals.{Numbered, Short, Faultless, Meets, FirstOf, Fault, inSheet, inFirst, inSecond, inData, inQuestion, inMemory, inChart, FaultPrinted}
+use Rattle.whole.specs.Refusals.{Numbered, Short, Faultless, FirstOf, Fault, inSheet, inFirst, inSecond, inData, inQuestion, inMemory, inChart, FaultPrinted}
 use Rattle.whole.proofs.Tests.{x, Few, few-walk, walk-number, line-number, fst-of, snd-of, not-zero, good-admitted, admitted-good, fault-refused, refused-fault, dataTest, good-one, one-good, fault-off, off-fault, good-fine, fine-good, fault-asked, asked-fault, tested-as, said}
 use Rattle.whole.proofs.Charts.{chart-first, Passed, chart-met, chart-numbered}
 

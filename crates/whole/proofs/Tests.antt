@@ -15,7 +15,7 @@ use Rattle.lines.specs.Lines.{Line, Question}
 use Rattle.lines.specs.Data.{oneDatum}
 use Rattle.questions.specs.declared.Asked.{Asked as AskAnswer}
 use Rattle.questions.specs.declared.Asked.the-variants.{Fine, RangeOutOfBounds, GapOutOfRange, TooManySplits, BreaksTooClose}
-use Rattle.questions.specs.Questions.{askedNumber, askedLine, askOf}
+use Rattle.questions.specs.Questions.{askedNumber, askOf}
 use Rattle.facts.specs.Faults.{askedPlace, LineFault, FirstLineFault, QuestionFault, FirstQuestionFault}
 use Rattle.facts.proofs.Facts.{line-table, data-table, question-table}
 use Rattle.states.specs.declared.State.{State}
@@ -26,12 +26,11 @@ use Rattle.opening.specs.Asked.{start, stateOf}
 use Rattle.opening.specs.Opens.{searchFor, isAdmitted, isFine, piecesFit, openDef}
 use Rattle.opening.proofs.Laws.{is-admitted}
 use Rattle.walks.specs.Words.{wordAt, kindOf, countOf}
-use Rattle.walks.specs.Sheets.{ChartLine, Chart, Walked, walked, charted, refusedAs, badLength, badCount, sizeOf, partOf, wordStands, weightsOf, lineKind, lineAfter, lineStands, rangeAfter, linesAfter, closing, pairOf, chartOf, walkOf}
-use Rattle.printing.specs.Printed.{refusalLine}
+use Rattle.walks.specs.Sheets.{ChartLine, Chart, Walked, walked, charted, refusedAs, badLength, badCount, sizeOf, partOf, wordStands, weightsOf, lineKind, lineAfter, lineStands, rangeAfter, linesAfter, closing, walkOf}
 use Rattle.sheet.specs.Answers.{zeros, lent, openedText, linesText, openedOn, lentOutput}
 use Rattle.charts.specs.Answers.{walkedText, answerOf}
 use Rattle.charts.proofs.First.{opened-by}
-use Rattle.whole.specs.Refusals.{OneOf, Numbered, DatumFault, GoodLine, GoodData, GoodQuestion, Short, Faultless, Fault, inSheet, inFirst, inSecond, inData, inQuestion, inMemory, FaultPrinted}
+use Rattle.whole.specs.Refusals.{OneOf, DatumFault, GoodLine, GoodData, GoodQuestion, Fault}
 
 -- ---- the walk refuses with 1, 2 or 3
 abbrev pub Few : Walked → Type 0

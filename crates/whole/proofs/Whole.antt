@@ -3,7 +3,7 @@ use mathlib.Core.Path.{_≡_, refl, sym, ap, _∙_}
 use mathlib.Core.Logic.{_↔_}
 use mathlib.Core.Bool.{Bool, true, false, _&&_, false≢true}
 use mathlib.Core.List.{List, [], _∷_}
-use Prim.Native.Nat.{ℕ, suc, _*_, _≤_}
+use Prim.Native.Nat.{ℕ, _*_, _≤_}
 use lib.ListN.{length, getD, length-replicate}
 use native.Mathlib.Omega.{arith}
 use Rattle.lists.specs.Members.{All}
@@ -29,7 +29,7 @@ use Rattle.coverage.proofs.Demand3.{opened-fresh}
 use Rattle.coverage.proofs.Complete.{loop-ends, complete-is-clear, loop-reports}
 use Rattle.walks.specs.Sheets.{ChartLine, Chart, charted, walkOf}
 use Rattle.sheet.specs.Answers.{zeros, zeroMarks, lent, lentOutput, reportedText, reportText, steppedText, searchText, openedText, linesText}
-use Rattle.charts.specs.Charts.{Tested, pairFor, isComplete, linesComplete, allComplete, lastLine, restText, testedText, chartText}
+use Rattle.charts.specs.Charts.{Tested, pairFor, isComplete, linesComplete, allComplete, restText, testedText, chartText}
 use Rattle.charts.specs.Answers.{walkedText, answerOf}
 use Rattle.charts.proofs.Says.{starts, word-says, lines-say}
 use Rattle.whole.specs.Whole.{PairReport, LineReports, EachComplete, Printed, refused, reported, chartReported, Whole, LastLinesDiffer, LineAlone}
