@@ -1,4 +1,6 @@
 // The Bezier points of one knot span, by the triangular recurrence on the poles' coefficients.
+#![tactic(auto)]
+
 ghost use Rattle.std.specs.Prelude.{◌≡◌, ◌++◌, ◌+◌, ◌-◌, ◌*◌, ◌≤◌, ◌<◌, length, take, drop, replicate};
 ghost use Rattle.floats.specs.Floats.{zero64};
 ghost use Rattle.blends.specs.Blends.{mix_of, knot_of, alpha_of, end_of, added, nothing, point_of, points_from};

@@ -1,4 +1,6 @@
 // Boxes of points and of nets: whether they are apart by a gap, and which is halved.
+#![tactic(auto)]
+
 ghost use Rattle.std.specs.Prelude.{◌≡◌, false, ◌+◌, ◌≤◌, length};
 ghost use Rattle.std.specs.Float.{inf};
 ghost use Rattle.boxes.specs.Points.{point_at};
@@ -8,7 +10,7 @@ ghost use Rattle.boxes.specs.Nets.{in_measure, measured, measured_in, room, meas
 use floats::Vector3D;
 
 // A box: its lowest and its highest corner.
-#[derive(Drop)]
+#[derive(Clone, Copy)]
 pub struct Aabb {
     pub x0: f64,
     pub y0: f64,

@@ -1,4 +1,6 @@
 // The answer to any sheet, in instalments of at most one report: a pair's report; a chart's, the track against each of its lines, and the last line; or a refusal.
+#![tactic(auto)]
+
 ghost use Rattle.std.specs.Prelude.{◌≡◌, true, false, ◌+◌, ◌≤◌, ◌<◌, eqb, length, get_or, drop};
 ghost use Rattle.walks.specs.Places.{LineInside, ChartLineInside, LinesInside, SheetInside, question_in, chart_in, chart_line_at, behind_at};
 ghost use Rattle.texts.specs.Texts.{Wrote};
@@ -11,14 +13,14 @@ use sheet::Pair;
 use walks::Sheet;
 
 // What a test meets: the table's number, 0 for nothing, and the place that is printed with it.
-#[derive(Drop)]
+#[derive(Clone, Copy)]
 pub struct Met {
     pub no: u8,
     pub place: u8,
 }
 
 // What an instalment leaves: how many bytes it has, whether more follow, and whether each report so far says complete.
-#[derive(Drop)]
+#[derive(Clone, Copy)]
 pub struct Instalment {
     pub length: usize,
     pub more: bool,

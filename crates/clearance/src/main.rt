@@ -1,4 +1,6 @@
 // A sheet on standard input, its answer on standard output.
+#![tactic(auto)]
+
 ghost use Rattle.std.specs.Prelude.{◌≡◌, length};
 ghost use Rattle.sheet.specs.Answers.{longest};
 

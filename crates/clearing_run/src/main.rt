@@ -1,4 +1,6 @@
 // Pairs of nets and gaps from standard input; boxes, sizes, verdicts and halves on standard output, floats as bits.
+#![tactic(auto)]
+
 ghost use Rattle.std.specs.Prelude.{◌≡◌, ◌+◌, ◌*◌, ◌<◌, ◌≤◌, length};
 
 use boxes::Aabb;

@@ -1,4 +1,6 @@
 // The Bezier pieces of an admitted line over an asked range.
+#![tactic(auto)]
+
 ghost use Rattle.std.specs.Prelude.{◌≡◌, true, ◌+◌, ◌-◌, ◌*◌, ◌%◌, ◌≤◌, ◌<◌, leb, length, take};
 ghost use Rattle.lists.specs.Parts.{patch};
 ghost use Rattle.lists.specs.Tests.{total};

@@ -1,4 +1,6 @@
 // A Bezier net cut to a part of its range, in blocks of four numbers.
+#![tactic(auto)]
+
 ghost use Rattle.std.specs.Prelude.{◌≡◌, ◌+◌, ◌*◌, ◌≤◌, ◌<◌, length};
 ghost use Rattle.cuts.specs.Cuts.{lerp_of, first_of, lerps, from_of, up_to_of, rest_of, upper_part, lower_part, restricted};
 

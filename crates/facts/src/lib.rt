@@ -1,1 +1,2 @@
 // Theorems on admission, questions and pieces, for whoever relies on them. No code.
+#![tactic(auto)]

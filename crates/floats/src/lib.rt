@@ -1,4 +1,6 @@
 // Least, greatest, middle, floor and vectors of f64, one rounding a step.
+#![tactic(auto)]
+
 ghost use Rattle.std.specs.Prelude.{◌≡◌, true, cond, ◌+◌, ◌<◌, ◌≤◌, pos};
 ghost use Rattle.std.specs.Float.{binary64};
 ghost use Rattle.std.specs.Float.Ieee.{lt, le, of_int};
@@ -111,7 +113,7 @@ pub fn floor(x: f64) -> f64
     x
 }
 
-#[derive(Drop)]
+#[derive(Clone, Copy)]
 pub struct Vector3D {
     pub x: f64,
     pub y: f64,

@@ -1,4 +1,6 @@
 // A line's knots unrolled, its flat knots and bounds, and the breaks of an asked range.
+#![tactic(auto)]
+
 ghost use Rattle.std.specs.Prelude.{◌≡◌, true, cond, ◌++◌, ◌+◌, ◌-◌, ◌*◌, ◌≤◌, length, take, drop};
 ghost use Rattle.lists.specs.Parts.{patch};
 ghost use Rattle.lists.specs.Tests.{total};

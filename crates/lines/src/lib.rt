@@ -1,4 +1,6 @@
 // Admission of a line: the table's numbers 4 to 14, and 22 of a closed line after 7, in this order; and whether two lines are of one datum.
+#![tactic(auto)]
+
 ghost use Rattle.std.specs.Prelude.{◌≡◌, ◌||◌, ◌≤◌, ◌<◌, ltb, leb, eqb, length};
 ghost use Rattle.std.specs.Float.Ieee.{lt};
 ghost use Rattle.lists.specs.Tests.{every, each_two, total};
@@ -9,7 +11,7 @@ ghost use Rattle.lines.specs.Data.{one_datum};
 ghost use Rattle.lines.specs.Admit.{admission_number, ends_differ, ends_too_large, too_large, beyond_of, validate_knots, validate_mults, validate_direction, validate_poles, admit_of};
 
 // Why a line is refused, or that it isn't. `BSplineConstructionError` names five of the cases.
-#[derive(Drop)]
+#[derive(Clone, Copy)]
 pub enum Admission {
     Admitted,
     InvalidDegree,

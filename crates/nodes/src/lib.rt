@@ -1,4 +1,6 @@
 // What a step does: to the state, and to the slots of the node on top.
+#![tactic(auto)]
+
 ghost use Rattle.std.specs.Prelude.{◌≡◌, not, ◌+◌, ◌-◌, ◌*◌, ◌≤◌, ◌<◌, length};
 ghost use Rattle.lists.specs.Parts.{block, patch};
 ghost use Rattle.boxes.specs.Boxes.{second_halved};
@@ -16,7 +18,7 @@ use states::{Depths, State, Tally};
 use verdicts::{Choice, Test};
 
 // What a step does with the node on top.
-#[derive(Drop)]
+#[derive(Clone, Copy)]
 pub enum Move {
     Settled(Test),
     GivenUp,

@@ -1,4 +1,6 @@
 // The pieces of a line over a range: for each two neighbouring breaks the net of the span around their middle, cut to them.
+#![tactic(auto)]
+
 ghost use Rattle.std.specs.Prelude.{◌≡◌, ◌+◌, ◌-◌, ◌*◌, ◌≤◌, length};
 ghost use Rattle.lists.specs.Parts.{patch};
 ghost use Rattle.pieces.specs.Pieces.{span_bezier, share, net_of, nets_of};

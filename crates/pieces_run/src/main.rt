@@ -2,6 +2,8 @@
 // sixteen hexadecimal digits a number.
 // A line is five words (degree, counts of knots, multiplicities, coordinates, weights), the knots, coordinates, weights, lo and hi as floats,
 // and the multiplicities as words; a question is two lines, the gap and S. Words have 32 bits, floats 64, low byte first.
+#![tactic(auto)]
+
 ghost use Rattle.std.specs.Prelude.{◌≡◌, false, ◌+◌, ◌*◌, ◌<◌, ◌≤◌, ◌^◌, length};
 ghost use Rattle.lines.specs.declared.Admission.TheVariants.{Admitted};
 ghost use Rattle.lines.specs.Lines.{line_of};
@@ -12,7 +14,7 @@ use lines::Admission;
 use questions::Asked;
 
 // The counts of a line; `ok` says that they were read and that the memory lent here holds so many.
-#[derive(Drop)]
+#[derive(Clone, Copy)]
 struct Header {
     ok: bool,
     degree: u32,

@@ -1,9 +1,11 @@
 // Homogeneous points of four numbers and parameter ranges, by value; points stored in a slice.
+#![tactic(auto)]
+
 ghost use Rattle.std.specs.Prelude.{◌≡◌, [], ◌∷◌, ◌+◌, ◌≤◌, length};
 ghost use Rattle.lists.specs.Parts.{patch};
 
 // A control point as (x w, y w, z w, w).
-#[derive(Drop)]
+#[derive(Clone, Copy)]
 pub struct Point4D {
     pub x: f64,
     pub y: f64,
@@ -12,7 +14,7 @@ pub struct Point4D {
 }
 
 // A parameter range, a pair of ends in the Rust.
-#[derive(Drop)]
+#[derive(Clone, Copy)]
 pub struct Interval {
     pub lo: f64,
     pub hi: f64,

@@ -1,9 +1,11 @@
 // The poles of a line: both slices in one borrowed view, the functions over it, and one pole's arithmetic on the slices.
+#![tactic(auto)]
+
 ghost use Rattle.std.specs.Prelude.{◌≡◌, ◌+◌, ◌*◌, ◌≤◌, length, take};
 ghost use Rattle.poles.specs.Poles.{pole_count, weight_of, homogeneous_of, homogeneous_poles};
 
 // The poles of a line, three coordinates each, and their weights, none for all 1: `Poles` of the Rust.
-#[derive(Drop)]
+#[derive(Clone, Copy)]
 pub struct Poles<'a, 'b> {
     pub coords: &'a [f64],
     pub weights: &'b [f64],

@@ -1,4 +1,6 @@
 // The lines that the sheet program prints: counts, regions, a refusal.
+#![tactic(auto)]
+
 ghost use Rattle.std.specs.Prelude.{◌≡◌, ◌+◌, ◌*◌, ◌≤◌, length};
 ghost use Rattle.texts.specs.Texts.{Wrote};
 ghost use Rattle.printing.specs.Printed.{counts_length, region_length, refusal_length, counted, word_text, steps_text, settled_text, listed_text, count_line, float_texts, region_line, region_lines, refusal_line};

@@ -1,11 +1,13 @@
 // What is wrong with a question about two admitted lines: the table's numbers 15 to 18, in its order.
+#![tactic(auto)]
+
 ghost use Rattle.std.specs.Prelude.{◌≡◌, ◌+◌, ◌≤◌, length};
 ghost use Rattle.lists.specs.Tests.{each_two, total};
 ghost use Rattle.knots.specs.Knots.{bounds_in, unrolled_of, breaks_in};
 ghost use Rattle.questions.specs.Questions.{asked_number, asked_line, turn_fits, whole_turn, range_fits, parted, ask_within};
 
 // Why a question is refused, or that it is fine. A number 1 or 2 is the line at fault.
-#[derive(Drop)]
+#[derive(Clone, Copy)]
 pub enum Asked {
     Fine,
     RangeOutOfBounds(u8),

@@ -1,4 +1,6 @@
 // Regions of ten floats by value, and merging those that touch.
+#![tactic(auto)]
+
 ghost use Rattle.std.specs.Prelude.{◌≡◌, cond, ◌++◌, [], reverse, ◌+◌, ◌-◌, ◌*◌, ◌≤◌, ◌<◌, length, take, drop, replicate};
 ghost use Rattle.lists.specs.Parts.{block, patch};
 ghost use Rattle.floats.specs.Floats.{zero64};
@@ -7,7 +9,7 @@ ghost use Rattle.regions.specs.Regions.{meet_of, touches_of, union_of, merging, 
 ghost use Rattle.regions.specs.Reports.{word_for, report_slice};
 
 // The ranges of the first and of the second line, and the lowest and the highest corner of a box.
-#[derive(Drop)]
+#[derive(Clone, Copy)]
 pub struct Region {
     pub a0: f64,
     pub a1: f64,
@@ -22,7 +24,7 @@ pub struct Region {
 }
 
 // A report's first word.
-#[derive(Drop)]
+#[derive(Clone, Copy)]
 pub enum Word {
     Complete,
     Budget,
@@ -30,7 +32,7 @@ pub enum Word {
 }
 
 // What one pass leaves: the region as grown, and how many stay.
-#[derive(Drop)]
+#[derive(Clone, Copy)]
 struct Swept {
     grown: Region,
     kept: usize,

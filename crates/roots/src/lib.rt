@@ -1,5 +1,7 @@
 // The square root of an f64, correctly rounded, from its bits. A guess by floats is tested exactly, in whole numbers;
 // where it fails, the root is made digit by digit.
+#![tactic(auto)]
+
 ghost use Rattle.std.specs.Prelude.{◌≡◌, ◌&&◌, false, leb, ltb, ◌+◌, ◌*◌, ◌^◌, ◌/◌, ◌%◌, ◌<◌, ◌≤◌};
 ghost use Rattle.std.specs.Float.{binary64};
 ghost use Rattle.std.specs.Float.Ieee.{of_bits};
@@ -19,7 +21,7 @@ const LEADING: u64 = 0x10_0000_0000_0000;
 // ---- the root digit by digit
 
 // The whole root of the digits that are down so far, and what they exceed its square by.
-#[derive(Drop)]
+#[derive(Clone, Copy)]
 struct Root {
     root: u64,
     rem: u64,
@@ -114,7 +116,7 @@ fn guess_digits(b: u64) -> u64
 }
 
 // A number as hi * 2^54 + lo.
-#[derive(Drop)]
+#[derive(Clone, Copy)]
 struct Wide {
     hi: u64,
     lo: u64,
@@ -138,7 +140,7 @@ fn square(q: u64) -> Wide
 const LEVEL: u64 = 0x280_0000_0000_0000;
 
 // A candidate q for the whole number nearest to the root of n, with over = n - q * q + LEVEL.
-#[derive(Drop)]
+#[derive(Clone, Copy)]
 struct Candidate {
     q: u64,
     over: u64,
@@ -205,7 +207,7 @@ fn nearest_whole(q: u64, m: u64) -> u64
 // ---- from the pattern to the pattern
 
 // m shifted up to 53 digits: the digits, and by how many places.
-#[derive(Drop)]
+#[derive(Clone, Copy)]
 struct Scaled {
     m: u64,
     by: u64,
@@ -226,7 +228,7 @@ fn shifted(m: u64) -> Scaled
 }
 
 // The number m * 2^up, in units of 2^-1126, with m of 53 digits.
-#[derive(Drop)]
+#[derive(Clone, Copy)]
 struct Parts {
     m: u64,
     up: u64,

@@ -1,4 +1,6 @@
 // Reads patterns of eight bytes, low byte first, and writes the pattern of each one's root: sixteen hexadecimal digits to a line.
+#![tactic(auto)]
+
 ghost use Rattle.std.specs.Prelude.{◌≡◌, ◌+◌, ◌*◌, ◌<◌, ◌≤◌, ◌^◌, length};
 ghost use Rattle.std.specs.Float.{binary64};
 ghost use Rattle.std.specs.Float.Ieee.{of_bits, to_bits};

@@ -1,4 +1,6 @@
 // The search: its own verdict, a step, and the loop that gives each step the own verdict.
+#![tactic(auto)]
+
 ghost use Rattle.std.specs.Prelude.{◌≡◌, [], suc, ◌+◌, ◌*◌, ◌≤◌, length};
 ghost use Rattle.lists.specs.Parts.{block};
 ghost use Rattle.boxes.specs.Nets.{box_of};
@@ -17,7 +19,7 @@ use states::{Depths, State, Top};
 use verdicts::Verdict;
 
 // What a step answers: the next state, number 20, or number 19.
-#[derive(Drop)]
+#[derive(Clone, Copy)]
 pub enum Stepped {
     Next(State),
     Ended,
@@ -25,7 +27,7 @@ pub enum Stepped {
 }
 
 // What the own verdict answers: the verdict, number 20, or number 19.
-#[derive(Drop)]
+#[derive(Clone, Copy)]
 pub enum Own {
     Is(Verdict),
     Ended,

@@ -1,4 +1,6 @@
 // The answer to one pair of lines of a sheet: the lines read, the opening, the search, and what is printed.
+#![tactic(auto)]
+
 ghost use Rattle.std.specs.Prelude.{cond, [], ◌≡◌, ◌+◌, ◌*◌, ◌≤◌, length};
 ghost use Rattle.lines.specs.Lines.{line_of};
 ghost use Rattle.opening.specs.Opens.{question_of};
@@ -16,7 +18,7 @@ use states::State;
 use walks::Line;
 
 // What the opening of two lines refused, 0 if nothing, and the line at fault; and how many bytes were written.
-#[derive(Drop)]
+#[derive(Clone, Copy)]
 pub struct Pair {
     pub no: u8,
     pub line: u8,

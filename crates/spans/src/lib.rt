@@ -1,4 +1,6 @@
 // Where a parameter lies among the knots: the span of the flat knots that holds it, and the two distinct knots around it.
+#![tactic(auto)]
+
 ghost use Rattle.std.specs.Prelude.{◌≡◌, ◌+◌, ◌-◌, ◌*◌, ◌≤◌, ◌<◌, length};
 ghost use Rattle.spans.specs.Spans.{clamp_of, reach_of, back_of, span_of, passed_of, span_end, span_around, start_unless, in_period, turn_of, turn_span, place_of};
 

@@ -1,11 +1,13 @@
 // The state of a search, and number 19's tests of it and of the lent memory.
+#![tactic(auto)]
+
 ghost use Rattle.std.specs.Prelude.{◌≡◌, ◌+◌, ◌*◌, ◌≤◌, eqb, get_or};
 ghost use Rattle.states.specs.States.{allowance_of, records_of, needed, enough, enough_own, top_depth, top_fits, search_with, over, counts_of, top_of, first_state};
 
 use terms::Terms;
 
 // The whole numbers of a search.
-#[derive(Drop)]
+#[derive(Clone, Copy)]
 pub struct Tally {
     // starting pairs, P
     pub pairs: u16,
@@ -30,7 +32,7 @@ pub struct Tally {
 }
 
 // All that a search is, but for the nodes and regions in the lent memory.
-#[derive(Drop)]
+#[derive(Clone, Copy)]
 pub struct State {
     pub tally: Tally,
     // points of each line's nets
@@ -42,7 +44,7 @@ pub struct State {
 }
 
 // A search's result: document 01's counts, and the allowance left.
-#[derive(Drop)]
+#[derive(Clone, Copy)]
 pub struct Counts {
     pub pairs: u16,
     pub visits: u64,
@@ -58,14 +60,14 @@ pub struct Counts {
 }
 
 // A node's two depths: how often the first line was halved, and the second.
-#[derive(Drop)]
+#[derive(Clone, Copy)]
 pub struct Depths {
     pub first: u8,
     pub second: u8,
 }
 
 // What a call finds on top: a node and its depths, number 20, or number 19.
-#[derive(Drop)]
+#[derive(Clone, Copy)]
 pub enum Top {
     Node(u32, Depths),
     Ended,

@@ -1,4 +1,6 @@
 // Stretch marks: which regions of a report are one stretch, over the seam of a closed line too.
+#![tactic(auto)]
+
 ghost use Rattle.std.specs.Prelude.{◌≡◌, ◌&&◌, cond, ◌+◌, ◌*◌, ◌≤◌, ◌<◌, eqb, length};
 ghost use Rattle.std.specs.Float.Ieee.{eq};
 ghost use Rattle.lists.specs.Parts.{patch};

@@ -1,9 +1,11 @@
 // What only a report reads of the question, by value.
+#![tactic(auto)]
+
 ghost use Rattle.std.specs.Prelude.{◌≡◌};
 ghost use Rattle.terms.specs.Terms.{seam_of1, seam_of2};
 
 // Whether each line is closed and asked for a whole turn, and the asked ends.
-#[derive(Drop)]
+#[derive(Clone, Copy)]
 pub struct Terms {
     pub turn1: bool,
     pub turn2: bool,
@@ -14,7 +16,7 @@ pub struct Terms {
 }
 
 // One line's seam: whether there is one, and the ends that meet there.
-#[derive(Drop)]
+#[derive(Clone, Copy)]
 pub struct Seam {
     pub whole: bool,
     pub lo: f64,

@@ -1,4 +1,6 @@
 // Text into bytes: each function writes at a place of a lent buffer and answers the place behind what it wrote.
+#![tactic(auto)]
+
 ghost use Rattle.std.specs.Prelude.{◌≡◌, ◌+◌, ◌<◌, ◌≤◌, length};
 ghost use Rattle.lists.specs.Parts.{patch};
 ghost use Rattle.texts.specs.Texts.{Wrote, hex_digit, digits_of, places_in, decimal_of, bits_of, float_text};

@@ -1,4 +1,6 @@
 // Words and floats out of bytes, and where the parts of a sheet stand.
+#![tactic(auto)]
+
 ghost use Rattle.std.specs.Prelude.{cond, ◌≡◌, ◌+◌, ◌*◌, ◌<◌, ◌≤◌, eqb, length};
 ghost use Rattle.lists.specs.Parts.{patch};
 ghost use Rattle.walks.specs.Words.{word_at, float_at, words_from, floats_from};
@@ -6,7 +8,7 @@ ghost use Rattle.walks.specs.Sheets.{bad_count, bad_length, size_of, part_of, wo
 ghost use Rattle.walks.specs.Places.{unless, part_at, weights_at, line_at, sheet_in, sheet_of, LineInside, ChartLineInside, SheetInside, PartFits, LineFits, ChartLineFits, LinesFits, ClosingFits};
 
 // A counted part: the number that refuses the sheet or 0, the count in its word, where it starts, and the place behind it.
-#[derive(Drop)]
+#[derive(Clone, Copy)]
 pub struct Part {
     pub no: u8,
     pub count: usize,
@@ -15,7 +17,7 @@ pub struct Part {
 }
 
 // The parts of a line, and its datum.
-#[derive(Drop)]
+#[derive(Clone, Copy)]
 pub struct Line {
     pub no: u8,
     pub closed: bool,
@@ -29,7 +31,7 @@ pub struct Line {
 }
 
 // The lines of a chart: the number that refuses the sheet or 0, how many they are, and the place behind them.
-#[derive(Drop)]
+#[derive(Clone, Copy)]
 struct Lines {
     no: u8,
     count: usize,
@@ -37,7 +39,7 @@ struct Lines {
 }
 
 // The question and the end: the number that refuses the sheet or 0, the splits per pair, and where the question's five floats start.
-#[derive(Drop)]
+#[derive(Clone, Copy)]
 struct Closing {
     no: u8,
     splits: u32,
@@ -46,7 +48,7 @@ struct Closing {
 
 // The parts of a sheet; the question's five floats start at `asked`.
 // A chart has `lines` lines, each with its range, from `first.next` on; its `second` is the track again.
-#[derive(Drop)]
+#[derive(Clone, Copy)]
 pub struct Sheet {
     pub no: u8,
     pub chart: bool,

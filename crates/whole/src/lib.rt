@@ -1,1 +1,2 @@
 // What the sheet program prints, for every sheet. No code.
+#![tactic(auto)]

@@ -1,4 +1,6 @@
 // A state as 23 words of 64 bits, and verdicts as numbers: how other programs hand them over.
+#![tactic(auto)]
+
 ghost use Rattle.std.specs.Prelude.{◌≡◌, true, ◌≤◌, length};
 ghost use Rattle.lists.specs.Parts.{patch};
 ghost use Rattle.verdicts.specs.Verdicts.{test_number, verdict_number};

@@ -1,0 +1,14 @@
+-- `put3`: three stores are a patch of three. Assumes nothing.
+use native.Mathlib.Omega.{arith}
+use lib.ListN.{length-set}
+use Rattle.lists.proofs.Loops.{three}
+use Rattle.lists.proofs.put3.Goals as goal
+
+pub bounds-s-at-2 : goal.bounds-s-at-2
+bounds-s-at-2 c = simp length-set (omega arith)
+
+pub bounds-s-at-3 : goal.bounds-s-at-3
+bounds-s-at-3 c = simp length-set (omega arith)
+
+pub returns : goal.returns
+returns c = three c.args.s.now c.args.at c.args.a c.args.b c.args.c c.requires

@@ -1,0 +1,25 @@
+-- `reach` goes on or stops as its definition does. Assumes nothing.
+use mathlib.Core.Path.{◌≡◌, refl, ◌∙◌}
+use Prim.Native.Nat.{◌+◌, ◌-◌}
+use native.Mathlib.Omega.{arith}
+use borrow.Author.Rules.{rules}
+use Rattle.spans.proofs.Laws as laws
+use Rattle.spans.proofs.reach.Goals as goal
+
+pub loop-s-init : goal.loop-s-init
+loop-s-init c = (search rules, search rules, let a = c.args in let k : a.from + a.n - a.from ≡ a.n = omega arith in rw k refl)
+
+pub loop-s-preserved : goal.loop-s-preserved
+loop-s-preserved c = let a = c.args in
+    let l = c.loop-s in
+    (search rules, search rules, laws.reach_on (a.from + a.n) l.s a.u a.flat.now (search rules) c.if-flat-s.true ∙ l.invariant.2)
+
+pub returns-else-flat-s : goal.returns-else-flat-s
+returns-else-flat-s c = let a = c.args in
+    let l = c.loop-s in
+    (laws.reach_stop (a.from + a.n) l.s _ a.u a.flat.now (search rules) c.if-flat-s.false l.invariant.2, search rules, search rules)
+
+pub returns : goal.returns
+returns c = let a = c.args in
+    let l = c.loop-s in
+    (laws.reach_end (a.from + a.n) l.s _ a.u a.flat.now (search rules) l.invariant.2, search rules, search rules)
