@@ -23,5 +23,9 @@ loop-s-preserved c = let w = c.sweep-s-in-loop-s in
 
 pub returns : goal.returns
 returns c = let w = c.sweep-s in
-    absorbed _ _ _ _ _ _ _ _ _ (search rules) (search rules) w.ensures.grown_value.0 w.ensures.grown_value.1 w.ensures.out_after.0 w.ensures.out_after.1
-    c.loop-s.invariant (search rules) c.store.ensures
+    record {
+      value = (absorbed _ _ _ _ _ _ _ _ _ (search rules) (search rules) w.ensures.grown_value.0 w.ensures.grown_value.1 w.ensures.out_after.0 w.ensures.out_after.1
+    c.loop-s.invariant (search rules) c.store.ensures).0;
+      out_after = (absorbed _ _ _ _ _ _ _ _ _ (search rules) (search rules) w.ensures.grown_value.0 w.ensures.grown_value.1 w.ensures.out_after.0 w.ensures.out_after.1
+    c.loop-s.invariant (search rules) c.store.ensures).1;
+    }

@@ -1,10 +1,10 @@
 -- `insert` puts region k in its place. The invariant, Inserting, says that inserting behind j gives the wanted list; the measure is how many are behind. Assumes nothing.
 use mathlib.Core.Path.{refl}
-use mathlib.Core.Logic.{⊎_elim}
 use Prim.Native.Nat.{◌-◌}
 use borrow.Author.Rules.{rules}
 use Rattle.regions.proofs.Sorting.{insert_turn, stop_end, stop_here, insert_done}
 use Rattle.regions.proofs.insert.Goals as goal
+use Rattle.regions.proofs.insert.Goals.{then-loop-j-test+else-out-j, else-loop-j-test}
 
 pub loop-j-init : goal.loop-j-init
 loop-j-init c = record { same = refl; at = search rules; follows = refl; rest = refl }
@@ -16,7 +16,12 @@ loop-j-preserved c = let y = c.load in
     c.if-out-j.true y.ensures c.store.ensures
 
 pub returns : goal.returns
-returns c = let p = c.loop-j.invariant in
-    insert_done _ _ _ _ _ _ p (search rules) _ _ (⊎_elim (λ w. stop_here _ _ _ _ _ _ p (search rules) w.0.taken w.3.left)
-    (λ w. stop_end _ _ _ _ _ _ p (search rules) w.left) c.loop-j-test.branch)
-    c.store-2.ensures c.load-r.ensures
+returns c =
+    let p = c.loop-j.invariant in
+    let q = insert_done _ _ _ _ _ _ p (search rules) _ _
+      (elim c.loop-j-test.branch [
+        then-loop-j-test+else-out-j w ↦ stop_here _ _ _ _ _ _ p (search rules) w.loop-j-test.true w.if-out-j.false
+      | else-loop-j-test w ↦ stop_end _ _ _ _ _ _ p (search rules) w.loop-j-test.false
+      ])
+      c.store-2.ensures c.load-r.ensures in
+    record { out_after = q.0; out_unchanged = q.1 }

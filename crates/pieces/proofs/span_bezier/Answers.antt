@@ -1,0 +1,11 @@
+-- `span_bezier` joins the clamp, the search and the points. Assumes nothing.
+use Rattle.pieces.specs.Pieces.{held}
+use Rattle.pieces.proofs.Laws as laws
+use Rattle.pieces.proofs.span_bezier.Goals as goal
+
+pub returns : goal.returns
+unfolding held
+returns c = let a = c.args in
+    let u = c.clamp-u in
+    let s = c.span-s in
+    laws.span_is a.p a.flat.now a.poles.now _ u.result a.v s.result u.ensures s.ensures.0 c.points.ensures
