@@ -12,7 +12,7 @@ returns-then-dot c = let a = c.args in
     let n = c.dot-2 in
     c.along_axis.ensures
     ∙ along_first a.gap a.p.now a.q.now ca.result cb.result m.result n.result ca.ensures cb.ensures m.ensures
-    n.ensures c.if-dot.true c.point_at.result (c.point_at.ensures ∙ first_is a.p.now pre.0)
+    n.ensures c.if-dot.true c.point_at.result (c.point_at.ensures ∙ first_is a.p.now pre.in_bounds)
 
 pub returns : goal.returns
 returns c = let a = c.args in
@@ -23,4 +23,4 @@ returns c = let a = c.args in
     let n = c.dot-2 in
     c.along_axis-2.ensures
     ∙ along_second a.gap a.p.now a.q.now ca.result cb.result m.result n.result ca.ensures cb.ensures m.ensures
-    n.ensures c.if-dot.false c.point_at-2.result (c.point_at-2.ensures ∙ first_is a.q.now pre.1)
+    n.ensures c.if-dot.false c.point_at-2.result (c.point_at-2.ensures ∙ first_is a.q.now pre.in_bounds_2)

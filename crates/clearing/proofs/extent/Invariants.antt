@@ -9,7 +9,7 @@ use Rattle.clearing.specs.Extents.{reached_to, extent_of}
 use Rattle.clearing.proofs.extent.Given as goal
 
 abbrev pub invariant-loop-i : goal.invariant-loop-i
-invariant-loop-i l = (l.i ≤ length l.points) × (foldl (λ l.e v. reached_to l.e (dot_of v l.axis)) l.e (vectors (drop l.i l.points)) ≡ extent_of l.axis l.points)
+invariant-loop-i l = (l.i ≤ length l.points) × (foldl (λ e v. reached_to e (dot_of v l.axis)) l.e (vectors (drop l.i l.points)) ≡ extent_of l.axis l.points)
 
 abbrev pub decreases-loop-i : goal.decreases-loop-i
 decreases-loop-i l = length l.points - l.i

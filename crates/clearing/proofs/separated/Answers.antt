@@ -13,7 +13,7 @@ returns-then-apart_along c = let pre = c.requires in
     first_axis n.result ca.result cb.result a.gap a.p.now a.q.now (sym c.apart_along.ensures ∙ c.if-apart_along.true)
     ∙ separated_is n.result ca.result cb.result a.gap a.p.now a.q.now c.sub.result ca.ensures cb.ensures
     (between_is _ _ _ a.p.now a.q.now c.sub.ensures c.point_at.ensures
-    c.point_at-2.ensures pre.0 pre.1) n.ensures
+    c.point_at-2.ensures pre.in_bounds pre.in_bounds_2) n.ensures
 
 pub returns-then-apart_along-2 : goal.returns-then-apart_along-2
 returns-then-apart_along-2 c = let b = c in
@@ -26,7 +26,7 @@ returns-then-apart_along-2 c = let b = c in
     (sym c.apart_along.ensures ∙ c.if-apart_along.false)
     (sym (ap (λ v. apart_along v a.gap a.p.now a.q.now) c.cross.ensures) ∙ sym c.apart_along-2.ensures ∙ c.if-apart_along-2.true)
     ∙ separated_is n.result ca.result cb.result a.gap a.p.now a.q.now b.sub.result ca.ensures cb.ensures
-    (between_is _ _ _ a.p.now a.q.now b.sub.ensures b.point_at.ensures b.point_at-2.ensures pre.0 pre.1) n.ensures
+    (between_is _ _ _ a.p.now a.q.now b.sub.ensures b.point_at.ensures b.point_at-2.ensures pre.in_bounds pre.in_bounds_2) n.ensures
 
 pub returns : goal.returns
 returns c = let b = c in
@@ -42,4 +42,4 @@ returns c = let b = c in
     ∙ sym c.apart_along-2.ensures ∙ c.if-apart_along-2.false)
     ∙ separated_is n.result ca.result cb.result a.gap a.p.now a.q.now b.sub.result ca.ensures cb.ensures
     (between_is _ _ _ a.p.now a.q.now b.sub.ensures b.point_at.ensures
-    b.point_at-2.ensures pre.0 pre.1) n.ensures
+    b.point_at-2.ensures pre.in_bounds pre.in_bounds_2) n.ensures
