@@ -9,7 +9,7 @@ use Rattle.blends.proofs.Laws as laws
 use Rattle.blends.proofs.level.Given as goal
 
 abbrev pub invariant-loop-i : goal.invariant-loop-i
-invariant-loop-i l = 
+invariant-loop-i l =
     (length l.s ≡ 702) × (l.i ≤ l.m)
     × (take (27 * l.i) l.s ++ level_of (alpha_of l.p l.u l.near l.x l.r) l.n (l.m - l.i) l.i (drop (27 * l.i) l.s) ≡ level_of (alpha_of l.p l.u l.near l.x l.r) l.n l.m 0 l.initial.s)
 

@@ -11,10 +11,10 @@ loop-j-init c = (search rules, rw sub-zero refl)
 
 pub loop-j-preserved : goal.loop-j-preserved
 loop-j-preserved c = let l = c.loop-j in (
-      search rules,
-      laws.weigh_turn l.q c.plus-q.result c.args.n l.j _
-          _ (search rules) c.plus-q.ensures ∙ l.invariant.1,
-    )
+  search rules,
+  laws.weigh_turn l.q c.plus-q.result c.args.n l.j _
+      _ (search rules) c.plus-q.ensures ∙ l.invariant.1,
+)
 
 pub returns : goal.returns
 returns c = laws.weigh_done c.loop-j.q _ c.args.n c.loop-j.j _ _ (search rules) c.loop-j.invariant.1

@@ -14,6 +14,6 @@ returns-then-ranges_apart-2 c = simp (sym c.ranges_apart.ensures ∙ c.if-ranges
 pub returns : goal.returns
 unfolding boxes_apart
 returns c = simp (
-      sym c.ranges_apart.ensures ∙ c.if-ranges_apart.false,
-      sym c.ranges_apart-2.ensures ∙ c.if-ranges_apart-2.false,
-    ) c.ranges_apart-3.ensures
+  sym c.ranges_apart.ensures ∙ c.if-ranges_apart.false,
+  sym c.ranges_apart-2.ensures ∙ c.if-ranges_apart-2.false,
+) c.ranges_apart-3.ensures

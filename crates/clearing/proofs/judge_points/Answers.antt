@@ -14,6 +14,6 @@ returns-then-separated c = simp (sym c.boxes_apart.ensures ∙ c.if-boxes_apart.
 pub returns : goal.returns
 unfolding tests_of
 returns c = simp (
-      sym c.boxes_apart.ensures ∙ c.if-boxes_apart.false,
-      sym c.separated.ensures ∙ c.if-separated.false,
-    ) c.judge_line.ensures
+  sym c.boxes_apart.ensures ∙ c.if-boxes_apart.false,
+  sym c.separated.ensures ∙ c.if-separated.false,
+) c.judge_line.ensures

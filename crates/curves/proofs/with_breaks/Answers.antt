@@ -14,8 +14,8 @@ slice_bounds-nets-end c = let m = c.breaks_of-n in
 pub nets-requires : goal.nets-requires
 nets-requires c = let m = c.breaks_of-n in
     let h = c.requires in
-    let n = length-take-le m.result m.new.out (omega (arith, m.auto.out, c.break_room-b.ensures, m.ensures.4, h.1.1)) in
-    record { le_p = (h.0.0, h.0.1, h.0.2, h.0.3, h.0.4, h.1.0); in_bounds = (omega (arith, m.ensures.3), omega (arith, m.ensures.4, h.1.1), laws.room_of _ _ m.ensures.2 h.1.2) }
+    let n = length-take-le m.result m.new.out (omega (arith, m.auto.out, c.break_room-b.ensures, m.ensures.4, h.in_bounds.1)) in
+    record { le_p = (h.le_p.0, h.le_p.1, h.le_p.2, h.le_p.3, h.le_p.4, h.in_bounds.0); in_bounds = (omega (arith, m.ensures.3), omega (arith, m.ensures.4, h.in_bounds.1), laws.room_of _ _ m.ensures.2 h.in_bounds.2) }
 
 pub returns : goal.returns
 returns c = let a = c.args in

@@ -16,7 +16,7 @@ slice_bounds-around-end c = sym (length-take-le (4 * (c.args.n + c.args.p)) c.tu
 
 pub around-requires : goal.around-requires
 around-requires c = let h = c.requires in
-    (omega (arith, h.0.2), h.0.3, h.0.4, h.0.1, h.0.6, length-take-le (4 * (c.args.n + c.args.p)) c.turn_room-a.result (omega (arith, c.turn_room-a.ensures, h.0.1, h.0.3)))
+    (omega (arith, h.le_p.2), h.le_p.3, h.le_p.4, h.le_p.1, h.le_p.6, length-take-le (4 * (c.args.n + c.args.p)) c.turn_room-a.result (omega (arith, c.turn_room-a.ensures, h.le_p.1, h.le_p.3)))
 
 pub slice_bounds-with_breaks-end : goal.slice_bounds-with_breaks-end
 slice_bounds-with_breaks-end c = sym (length-take-le c.unrolled-k.result c.unrolled-k.new.out (omega (arith, c.unrolled-k.auto.out, c.turn_room-t.ensures, c.unrolled-k.ensures.0, c.requires.in_bounds.1)))
@@ -31,7 +31,7 @@ pub with_breaks-requires : goal.with_breaks-requires
 with_breaks-requires c = let h = c.requires in
     let u = c.unrolled-k in
     let k = (length-take-le c.unrolled-k.result c.unrolled-k.new.out (omega (arith, c.unrolled-k.auto.out, c.turn_room-t.ensures, c.unrolled-k.ensures.0, c.requires.in_bounds.1))) in
-    let n = laws.front_count (4 * (c.args.n + c.args.p)) c.around.new.out (drop (4 * (c.args.n + c.args.p)) c.turn_room-a.result) (c.around.auto.out ∙ length-take-le (4 * (c.args.n + c.args.p)) c.turn_room-a.result (omega (arith, c.turn_room-a.ensures, c.requires.le_p.1, c.requires.le_p.3))) in record { le_p = (h.0.0, h.0.1, omega (arith, h.0.2, h.0.5), omega (arith, h.0.1, h.0.3, h.0.5), omega (arith, n, h.0.5)); in_bounds = (omega (arith, k, u.ensures.0, h.1.0), omega (arith, k, u.ensures.0, h.1.1), laws.count_at c.args.lo c.args.hi _ _ u.ensures.1 h.1.2) }
+    let n = laws.front_count (4 * (c.args.n + c.args.p)) c.around.new.out (drop (4 * (c.args.n + c.args.p)) c.turn_room-a.result) (c.around.auto.out ∙ length-take-le (4 * (c.args.n + c.args.p)) c.turn_room-a.result (omega (arith, c.turn_room-a.ensures, c.requires.le_p.1, c.requires.le_p.3))) in record { le_p = (h.le_p.0, h.le_p.1, omega (arith, h.le_p.2, h.le_p.5), omega (arith, h.le_p.1, h.le_p.3, h.le_p.5), omega (arith, n, h.le_p.5)); in_bounds = (omega (arith, k, u.ensures.0, h.in_bounds.0), omega (arith, k, u.ensures.0, h.in_bounds.1), laws.count_at c.args.lo c.args.hi _ _ u.ensures.1 h.in_bounds.2) }
 
 pub returns : goal.returns
 returns c = let a = c.args in

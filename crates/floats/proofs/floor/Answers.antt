@@ -2,9 +2,6 @@
 use borrow.Author.Rules.{rules}
 use native.Mathlib.Omega.{arith}
 use Rattle.floats.proofs.Wholes.{whole_fits, floor_found, floor_stays, floor_large, up_to_two53, floor_found_negative, floor_stays_negative, floor_far_negative}
-use Rattle.floats.proofs.floor.Reads as reads
-use Rattle.floats.proofs.floor.Lts as lts
-use Rattle.floats.proofs.whole_below.Reads as whole-below-reads
 use Rattle.floats.proofs.floor.Goals as goal
 
 pub int_to_float-below : goal.int_to_float-below

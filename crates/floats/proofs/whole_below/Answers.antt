@@ -1,9 +1,6 @@
 -- `whole_below`: x lies from n to below n + w. Assumes nothing.
 use native.Mathlib.Omega.{arith}
 use Rattle.floats.proofs.Wholes.{whole_fits, from_start, from_upper, from_lower, from_end}
-use Rattle.floats.proofs.whole_below.Reads as reads
-use Rattle.floats.proofs.whole_below.Lts as lts
-use Rattle.floats.proofs.width.Reads as width-reads
 use Rattle.floats.proofs.whole_below.Goals as goal
 
 pub loop-w-init : goal.loop-w-init

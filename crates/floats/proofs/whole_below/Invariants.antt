@@ -1,8 +1,5 @@
 -- `whole_below`: x lies from n to below n + w. Assumes nothing.
 use Rattle.floats.proofs.Wholes.{From}
-use Rattle.floats.proofs.whole_below.Reads as reads
-use Rattle.floats.proofs.whole_below.Lts as lts
-use Rattle.floats.proofs.width.Reads as width-reads
 use Rattle.floats.proofs.whole_below.Given as goal
 
 abbrev pub invariant-loop-w : goal.invariant-loop-w

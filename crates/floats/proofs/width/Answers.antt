@@ -4,8 +4,6 @@ use mathlib.Core.Bool.{true}
 use lib.Dec.{lit≤}
 use lib.Ieee.{Float, lt}
 use Rattle.floats.proofs.Wholes.{four_is, two53_is}
-use Rattle.floats.proofs.width.Reads as reads
-use Rattle.floats.proofs.width.Lts as lts
 use Rattle.floats.proofs.width.Goals as goal
 
 -- src/lib.rt:70:9

@@ -12,14 +12,14 @@ use Rattle.knots.proofs.breaks_of.Goals as goal
 
 pub loop-i-init : goal.loop-i-init
 loop-i-init c = let a = c.args in (
-      refl,
-      simp length-set c.requires,
-      search rules,
-      search rules,
-      search rules,
-      refl,
-      laws.breaks_start a.lo a.out.now (between a.lo a.hi a.knots.now (a.hi ∷ [])) (omega arith),
-    )
+  refl,
+  simp length-set c.requires,
+  search rules,
+  search rules,
+  search rules,
+  refl,
+  laws.breaks_start a.lo a.out.now (between a.lo a.hi a.knots.now (a.hi ∷ [])) (omega arith),
+)
 
 pub loop-i-preserved : goal.loop-i-preserved
 loop-i-preserved c = let a = c.args in

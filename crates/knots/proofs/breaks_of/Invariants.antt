@@ -8,7 +8,7 @@ use Rattle.knots.proofs.Laws as laws
 use Rattle.knots.proofs.breaks_of.Given as goal
 
 abbrev pub invariant-loop-i : goal.invariant-loop-i
-invariant-loop-i l = 
+invariant-loop-i l =
     (length l.out ≡ length l.initial.out) × (length l.knots + 2 ≤ length l.out) × (l.i ≤ length l.knots) × (1 ≤ l.n) × (l.n ≤ l.i + 1) × (drop (l.n + 1) l.out ≡ drop (l.n + 1) l.initial.out)
     × (take l.n l.out ++ between l.lo l.hi (drop l.i l.knots) (l.hi ∷ []) ≡ breaks_in l.lo l.hi l.knots)
 

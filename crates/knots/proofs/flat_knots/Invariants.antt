@@ -10,7 +10,7 @@ use Rattle.knots.proofs.Laws as laws
 use Rattle.knots.proofs.flat_knots.Given as goal
 
 abbrev pub invariant-loop-i : goal.invariant-loop-i
-invariant-loop-i l = 
+invariant-loop-i l =
     (length l.out ≡ length l.initial.out) × (l.i ≤ length l.knots) × (l.at + total (drop l.i l.mults) ≡ total l.mults) × (drop l.at l.out ≡ drop l.at l.initial.out)
     × (take l.at l.out ++ flat_knots (drop l.i l.knots) (drop l.i l.mults) ≡ flat_knots l.knots l.mults)
 

@@ -11,12 +11,12 @@ loop-x-init c = (search rules, search rules, search rules, let a = c.args in let
 
 pub loop-x-preserved : goal.loop-x-preserved
 loop-x-preserved c = let args = c.args in (
-      search rules,
-      search rules,
-      search rules,
-      laws.repeat_turn args.k c.loop-x.out c.loop-x.x (args.at + args.n) (search rules) (omega arith)
-          ∙ c.loop-x.invariant.3,
-    )
+  search rules,
+  search rules,
+  search rules,
+  laws.repeat_turn args.k c.loop-x.out c.loop-x.x (args.at + args.n) (search rules) (omega arith)
+      ∙ c.loop-x.invariant.3,
+)
 
 pub returns : goal.returns
 returns c = let args = c.args in

@@ -8,7 +8,7 @@ use Rattle.knots.proofs.Laws as laws
 use Rattle.knots.proofs.repeat.Given as goal
 
 abbrev pub invariant-loop-x : goal.invariant-loop-x
-invariant-loop-x l = 
+invariant-loop-x l =
     (length l.out ≡ length l.initial.out) × (l.at ≤ l.x) × (l.x ≤ l.end)
     × (take l.x l.out ++ repeated (l.end - l.x) l.k (drop l.end l.out) ≡ take l.at l.initial.out ++ repeated l.n l.k (drop l.end l.initial.out))
 

@@ -11,14 +11,14 @@ returns-then-mults-degree c = simp (lt-ltb _ _ c.if-mults-degree.true)
 pub returns-then-mults-last : goal.returns-then-mults-last
 unfolding ends_too_large
 returns-then-mults-last c = simp (
-      le-ltb _ _ c.if-mults-degree.false,
-      lt-ltb _ _ c.if-mults-last.true,
-    )
+  le-ltb _ _ c.if-mults-degree.false,
+  lt-ltb _ _ c.if-mults-last.true,
+)
 
 pub returns : goal.returns
 unfolding ends_too_large
 returns c = simp (
-      le-ltb _ _ c.if-mults-degree.false,
-      le-ltb _ _ c.if-mults-last.false,
-      sym c.all_at_most.ensures,
-    )
+  le-ltb _ _ c.if-mults-degree.false,
+  le-ltb _ _ c.if-mults-last.false,
+  sym c.all_at_most.ensures,
+)

@@ -1,5 +1,4 @@
 -- `copy_from_slice` makes the starts of both equal, element by element. Assumes nothing.
-use Prim.Native.Nat.{◌-◌}
 use native.Mathlib.Omega.{arith}
 use borrow.Author.Rules.{rules}
 use lib.Ieee.{nan}

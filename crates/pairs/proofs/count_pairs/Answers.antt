@@ -26,7 +26,7 @@ loop-i-preserved c = let args = c.args in
 
 pub returns : goal.returns
 returns c = let args = c.args in (
-      all_end args.gap args.boxes1.now args.boxes2.now args.n2 args.n1 c.loop-i.i c.loop-i.count
-          c.loop-i-test.false c.loop-i.invariant.0,
-      rows_few c.loop-i.i args.n1 args.n2 c.loop-i.count c.loop-i.invariant.1 c.loop-i.invariant.2,
-    )
+  all_end args.gap args.boxes1.now args.boxes2.now args.n2 args.n1 c.loop-i.i c.loop-i.count
+      c.loop-i-test.false c.loop-i.invariant.0,
+  rows_few c.loop-i.i args.n1 args.n2 c.loop-i.count c.loop-i.invariant.1 c.loop-i.invariant.2,
+)

@@ -18,7 +18,7 @@ loop-i-preserved c = let args = c.args in
 
 pub returns : goal.returns
 returns c = let args = c.args in (
-      row_end args.gap args.a args.boxes.now args.n c.loop-i.i c.loop-i.count c.loop-i-test.false
-          c.loop-i.invariant.0,
-      search rules,
-    )
+  row_end args.gap args.a args.boxes.now args.n c.loop-i.i c.loop-i.count c.loop-i-test.false
+      c.loop-i.invariant.0,
+  search rules,
+)

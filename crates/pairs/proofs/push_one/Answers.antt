@@ -12,20 +12,23 @@ returns-then-boxes_apart c = let args = c.args in
     let pre = c.requires in
     record {
       fact_2 = (one_apart args.gap (pieces args.w1 args.pieces1.now args.breaks1.now) (pieces args.w2 args.pieces2.now args.breaks2.now)
-    args.i args.j args.k args.box1 args.box2 _ pre.box1_value.0 pre.box1_value.1 c.boxes_apart.ensures
-    (nodes args.nets1.now args.nets2.now args.ranges.now args.depths.now) c.if-boxes_apart.true).0;
+          args.i args.j args.k args.box1 args.box2 _ pre.box1_value.0 pre.box1_value.1 c.boxes_apart.ensures
+          (nodes args.nets1.now args.nets2.now args.ranges.now args.depths.now) c.if-boxes_apart.true).0;
       result_value = (one_apart args.gap (pieces args.w1 args.pieces1.now args.breaks1.now) (pieces args.w2 args.pieces2.now args.breaks2.now)
-    args.i args.j args.k args.box1 args.box2 _ pre.box1_value.0 pre.box1_value.1 c.boxes_apart.ensures
-    (nodes args.nets1.now args.nets2.now args.ranges.now args.depths.now) c.if-boxes_apart.true).1;
+          args.i args.j args.k args.box1 args.box2 _ pre.box1_value.0 pre.box1_value.1 c.boxes_apart.ensures
+          (nodes args.nets1.now args.nets2.now args.ranges.now args.depths.now) c.if-boxes_apart.true).1;
     }
 
 pub put_pair-requires : goal.put_pair-requires
 put_pair-requires c = let args = c.args in
-    let pre = c.requires in record { has_pieces = pre.has_pieces; room = one-room args.gap (pieces args.w1 args.pieces1.now args.breaks1.now)
+    let pre = c.requires in record {
+      has_pieces = pre.has_pieces;
+      room = one-room args.gap (pieces args.w1 args.pieces1.now args.breaks1.now)
           (pieces args.w2 args.pieces2.now args.breaks2.now) args.i args.j args.k args.box1 args.box2 _ pre.box1_value.0
           pre.box1_value.1 c.boxes_apart.ensures
           (nodes args.nets1.now args.nets2.now args.ranges.now args.depths.now) c.if-boxes_apart.false
-          pre.fact }
+          pre.fact;
+    }
 
 pub overflow_add-result : goal.overflow_add-result
 overflow_add-result c = let b = c in
@@ -44,11 +47,11 @@ returns c = let b = c in
     let pre = b.requires in
     record {
       fact_2 = (one_near args.gap (pieces args.w1 args.pieces1.now args.breaks1.now) (pieces args.w2 args.pieces2.now args.breaks2.now)
-    args.i args.j args.k args.box1 args.box2 _ pre.box1_value.0 pre.box1_value.1 b.boxes_apart.ensures
-    (nodes args.nets1.now args.nets2.now args.ranges.now args.depths.now) _ b.if-boxes_apart.false
-    c.put_pair.ensures).0;
+          args.i args.j args.k args.box1 args.box2 _ pre.box1_value.0 pre.box1_value.1 b.boxes_apart.ensures
+          (nodes args.nets1.now args.nets2.now args.ranges.now args.depths.now) _ b.if-boxes_apart.false
+          c.put_pair.ensures).0;
       result_value = (one_near args.gap (pieces args.w1 args.pieces1.now args.breaks1.now) (pieces args.w2 args.pieces2.now args.breaks2.now)
-    args.i args.j args.k args.box1 args.box2 _ pre.box1_value.0 pre.box1_value.1 b.boxes_apart.ensures
-    (nodes args.nets1.now args.nets2.now args.ranges.now args.depths.now) _ b.if-boxes_apart.false
-    c.put_pair.ensures).1;
+          args.i args.j args.k args.box1 args.box2 _ pre.box1_value.0 pre.box1_value.1 b.boxes_apart.ensures
+          (nodes args.nets1.now args.nets2.now args.ranges.now args.depths.now) _ b.if-boxes_apart.false
+          c.put_pair.ensures).1;
     }

@@ -29,25 +29,29 @@ pub push_row-k-requires : goal.push_row-k-requires
 push_row-k-requires c = let args = c.args in
     let pre = c.requires in
     let loop = c.loop-i in
-    let loop-test = c.loop-i-test in record { box1_value = (
+    let loop-test = c.loop-i-test in record {
+      box1_value = (
         c.box_at-box1.ensures
             ∙ box_is args.w1 args.pieces1.now args.boxes1.now args.n1 loop.i pre.holds_boxes.0 loop-test.true,
         pre.holds_boxes.1,
-      ); has_pieces = (
-          has_piece (pieces args.w1 args.pieces1.now args.breaks1.now) args.n1 loop.i pre.has_pieces.0 loop-test.true,
-          pre.has_pieces.1,
-        ); fact = all_room args.gap (pieces args.w1 args.pieces1.now args.breaks1.now)
-            (pieces args.w2 args.pieces2.now args.breaks2.now) args.n1 args.n2 pre.has_pieces.0 pre.has_pieces.1 loop.i loop.k
-            (nodes args.nets1.now args.nets2.now args.ranges.now args.depths.now)
-            (nodes loop.nets1 loop.nets2 loop.ranges loop.depths) loop-test.true loop.invariant.3 loop.invariant.4 loop.invariant.5
-            loop.invariant.6 pre.fact loop.invariant.1 }
+      );
+      has_pieces = (
+        has_piece (pieces args.w1 args.pieces1.now args.breaks1.now) args.n1 loop.i pre.has_pieces.0 loop-test.true,
+        pre.has_pieces.1,
+      );
+      fact = all_room args.gap (pieces args.w1 args.pieces1.now args.breaks1.now)
+          (pieces args.w2 args.pieces2.now args.breaks2.now) args.n1 args.n2 pre.has_pieces.0 pre.has_pieces.1 loop.i loop.k
+          (nodes args.nets1.now args.nets2.now args.ranges.now args.depths.now)
+          (nodes loop.nets1 loop.nets2 loop.ranges loop.depths) loop-test.true loop.invariant.3 loop.invariant.4 loop.invariant.5
+          loop.invariant.6 pre.fact loop.invariant.1;
+    }
 
 pub overflow_add-i : goal.overflow_add-i
 overflow_add-i c = omega (
-      arith,
-      c.loop-i-test.true,
-      c.ranges.n1.fits,
-    )
+  arith,
+  c.loop-i-test.true,
+  c.ranges.n1.fits,
+)
 
 pub loop-i-preserved : goal.loop-i-preserved
 loop-i-preserved c = let b = c in

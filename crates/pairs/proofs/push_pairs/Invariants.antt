@@ -7,7 +7,7 @@ use Rattle.pairs.specs.Nodes.{Nodes, nodes, pushed}
 use Rattle.pairs.proofs.push_pairs.Given as goal
 
 abbrev pub invariant-loop-i : goal.invariant-loop-i
-invariant-loop-i l = 
+invariant-loop-i l =
     (◌≡◌ {A = Nodes} (nodes l.nets1 l.nets2 l.ranges l.depths) (pushed (pieces l.w1 l.pieces1 l.breaks1) (pieces l.w2 l.pieces2 l.breaks2) 0
     (pairs_from l.gap (pieces l.w1 l.pieces1 l.breaks1) (pieces l.w2 l.pieces2 l.breaks2) l.n2 l.i 0) (nodes l.initial.nets1 l.initial.nets2 l.initial.ranges l.initial.depths)))
     × (l.k ≡ 0 + length (pairs_from l.gap (pieces l.w1 l.pieces1 l.breaks1) (pieces l.w2 l.pieces2 l.breaks2) l.n2 l.i 0)) × (l.i ≤ l.n1) × (length l.nets1 ≡ length l.initial.nets1)

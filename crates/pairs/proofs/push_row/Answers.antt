@@ -29,25 +29,29 @@ pub push_one-k-requires : goal.push_one-k-requires
 push_one-k-requires c = let args = c.args in
     let pre = c.requires in
     let loop = c.loop-j in
-    let loop-test = c.loop-j-test in record { box1_value = (
+    let loop-test = c.loop-j-test in record {
+      box1_value = (
         pre.box1_value.0,
         c.box_at-box2.ensures
             ∙ box_is args.w2 args.pieces2.now args.boxes2.now args.n2 loop.j pre.box1_value.1 loop-test.true,
-      ); has_pieces = (
-          pre.has_pieces.0,
-          has_piece (pieces args.w2 args.pieces2.now args.breaks2.now) args.n2 loop.j pre.has_pieces.1 loop-test.true,
-        ); fact = row_room args.gap (pieces args.w1 args.pieces1.now args.breaks1.now)
-            (pieces args.w2 args.pieces2.now args.breaks2.now) args.i args.n2 args.k0 pre.has_pieces.0 pre.has_pieces.1 loop.j
-            loop.k (nodes args.nets1.now args.nets2.now args.ranges.now args.depths.now)
-            (nodes loop.nets1 loop.nets2 loop.ranges loop.depths) loop-test.true loop.invariant.3 loop.invariant.4 loop.invariant.5
-            loop.invariant.6 pre.fact loop.invariant.1 }
+      );
+      has_pieces = (
+        pre.has_pieces.0,
+        has_piece (pieces args.w2 args.pieces2.now args.breaks2.now) args.n2 loop.j pre.has_pieces.1 loop-test.true,
+      );
+      fact = row_room args.gap (pieces args.w1 args.pieces1.now args.breaks1.now)
+          (pieces args.w2 args.pieces2.now args.breaks2.now) args.i args.n2 args.k0 pre.has_pieces.0 pre.has_pieces.1 loop.j
+          loop.k (nodes args.nets1.now args.nets2.now args.ranges.now args.depths.now)
+          (nodes loop.nets1 loop.nets2 loop.ranges loop.depths) loop-test.true loop.invariant.3 loop.invariant.4 loop.invariant.5
+          loop.invariant.6 pre.fact loop.invariant.1;
+    }
 
 pub overflow_add-j : goal.overflow_add-j
 overflow_add-j c = omega (
-      arith,
-      c.loop-j-test.true,
-      c.ranges.n2.fits,
-    )
+  arith,
+  c.loop-j-test.true,
+  c.ranges.n2.fits,
+)
 
 pub loop-j-preserved : goal.loop-j-preserved
 loop-j-preserved c = let b = c in
@@ -81,13 +85,13 @@ returns c = let args = c.args in
     let pre = c.requires in
     record {
       fact_2 = (row_pushed args.gap (pieces args.w1 args.pieces1.now args.breaks1.now) (pieces args.w2 args.pieces2.now args.breaks2.now)
-    args.i args.n2 args.k0 pre.has_pieces.0 pre.has_pieces.1 c.loop-j.j c.loop-j.k
-    (nodes args.nets1.now args.nets2.now args.ranges.now args.depths.now)
-    (nodes c.loop-j.nets1 c.loop-j.nets2 c.loop-j.ranges c.loop-j.depths) c.loop-j-test.false
-    c.loop-j.invariant.2 c.loop-j.invariant.0 c.loop-j.invariant.1).0;
+          args.i args.n2 args.k0 pre.has_pieces.0 pre.has_pieces.1 c.loop-j.j c.loop-j.k
+          (nodes args.nets1.now args.nets2.now args.ranges.now args.depths.now)
+          (nodes c.loop-j.nets1 c.loop-j.nets2 c.loop-j.ranges c.loop-j.depths) c.loop-j-test.false
+          c.loop-j.invariant.2 c.loop-j.invariant.0 c.loop-j.invariant.1).0;
       result_value = (row_pushed args.gap (pieces args.w1 args.pieces1.now args.breaks1.now) (pieces args.w2 args.pieces2.now args.breaks2.now)
-    args.i args.n2 args.k0 pre.has_pieces.0 pre.has_pieces.1 c.loop-j.j c.loop-j.k
-    (nodes args.nets1.now args.nets2.now args.ranges.now args.depths.now)
-    (nodes c.loop-j.nets1 c.loop-j.nets2 c.loop-j.ranges c.loop-j.depths) c.loop-j-test.false
-    c.loop-j.invariant.2 c.loop-j.invariant.0 c.loop-j.invariant.1).1;
+          args.i args.n2 args.k0 pre.has_pieces.0 pre.has_pieces.1 c.loop-j.j c.loop-j.k
+          (nodes args.nets1.now args.nets2.now args.ranges.now args.depths.now)
+          (nodes c.loop-j.nets1 c.loop-j.nets2 c.loop-j.ranges c.loop-j.depths) c.loop-j-test.false
+          c.loop-j.invariant.2 c.loop-j.invariant.0 c.loop-j.invariant.1).1;
     }

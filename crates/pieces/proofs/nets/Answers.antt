@@ -20,10 +20,10 @@ overflow_add-to c = omega (arith, laws.small c.loop-i.i c.args.p (omega arith) (
 
 pub offset_bounds-out-from : goal.offset_bounds-out-from
 offset_bounds-out-from c = omega (
-      arith,
-      laws.small c.loop-i.i c.args.p (omega arith)
-          (search rules),
-    )
+  arith,
+  laws.small c.loop-i.i c.args.p (omega arith)
+      (search rules),
+)
 
 pub loop-i-preserved : goal.loop-i-preserved
 loop-i-preserved c = let a = c.args in

@@ -8,7 +8,7 @@ use Rattle.pieces.proofs.Laws as laws
 use Rattle.pieces.proofs.nets.Given as goal
 
 abbrev pub invariant-loop-i : goal.invariant-loop-i
-invariant-loop-i l = 
+invariant-loop-i l =
     (length l.out ≡ length l.initial.out) × (l.i ≤ length l.breaks - 1) × (drop (l.i * (4 * (l.p + 1))) l.out ≡ drop (l.i * (4 * (l.p + 1))) l.initial.out)
     × (take (l.i * (4 * (l.p + 1))) l.out ++ nets_of l.closed l.p l.knots l.flat l.poles (drop l.i l.breaks) ≡ nets_of l.closed l.p l.knots l.flat l.poles l.breaks)
 

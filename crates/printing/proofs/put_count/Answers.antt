@@ -7,7 +7,7 @@ pub returns : goal.returns
 returns c = let args = c.args in
     record {
       wrote = (counted_is args.out.now args.at args.name.now args.n (search rules) (search rules)
-    c.put_bytes-next.ensures c.put_decimal.ensures).0;
+          c.put_bytes-next.ensures c.put_decimal.ensures).0;
       upper_bound = (counted_is args.out.now args.at args.name.now args.n (search rules) (search rules)
-    c.put_bytes-next.ensures c.put_decimal.ensures).1;
+          c.put_bytes-next.ensures c.put_decimal.ensures).1;
     }

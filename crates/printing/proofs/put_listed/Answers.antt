@@ -7,7 +7,7 @@ pub returns : goal.returns
 returns c = let args = c.args in
     record {
       wrote = (listed_are args.out.now args.at args.c (search rules)
-    (c.put_count-given.ensures.wrote, c.put_count-given.ensures.upper_bound) (c.put_count.ensures.wrote, c.put_count.ensures.upper_bound)).0;
+          (c.put_count-given.ensures.wrote, c.put_count-given.ensures.upper_bound) (c.put_count.ensures.wrote, c.put_count.ensures.upper_bound)).0;
       upper_bound = (listed_are args.out.now args.at args.c (search rules)
-    (c.put_count-given.ensures.wrote, c.put_count-given.ensures.upper_bound) (c.put_count.ensures.wrote, c.put_count.ensures.upper_bound)).1;
+          (c.put_count-given.ensures.wrote, c.put_count-given.ensures.upper_bound) (c.put_count.ensures.wrote, c.put_count.ensures.upper_bound)).1;
     }

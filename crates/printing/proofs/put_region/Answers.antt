@@ -10,7 +10,7 @@ returns c = let count = c in
     let args = bytes.args in
     record {
       wrote = (region_is args.out.now args.at args.region.now args.mark (search rules) (search rules)
-    bytes.put_bytes-floats.ensures (floats.put_floats-place.ensures.wrote, floats.put_floats-place.ensures.value) (count.put_count-end.ensures.wrote, count.put_count-end.ensures.upper_bound) c.put_bytes.ensures).0;
+          bytes.put_bytes-floats.ensures (floats.put_floats-place.ensures.wrote, floats.put_floats-place.ensures.value) (count.put_count-end.ensures.wrote, count.put_count-end.ensures.upper_bound) c.put_bytes.ensures).0;
       upper_bound = (region_is args.out.now args.at args.region.now args.mark (search rules) (search rules)
-    bytes.put_bytes-floats.ensures (floats.put_floats-place.ensures.wrote, floats.put_floats-place.ensures.value) (count.put_count-end.ensures.wrote, count.put_count-end.ensures.upper_bound) c.put_bytes.ensures).1;
+          bytes.put_bytes-floats.ensures (floats.put_floats-place.ensures.wrote, floats.put_floats-place.ensures.value) (count.put_count-end.ensures.wrote, count.put_count-end.ensures.upper_bound) c.put_bytes.ensures).1;
     }

@@ -7,7 +7,7 @@ use Rattle.printing.specs.Printed.{region_length, region_lines}
 use Rattle.printing.proofs.put_regions.Given as goal
 
 abbrev pub invariant-loop-k : goal.invariant-loop-k
-invariant-loop-k l = 
+invariant-loop-k l =
     (length l.out ≡ length l.initial.out) × (l.k ≤ l.n) × Wrote l.initial.out l.at (region_lines l.k l.list l.marks) l.out l.here × (l.here ≤ l.at + region_length * l.k)
 
 abbrev pub decreases-loop-k : goal.decreases-loop-k

@@ -19,9 +19,9 @@ returns c = let b = c in
     let args = b.args in
     record {
       wrote = (settled_are args.out.now args.at args.c (search rules)
-    (b.put_count-settled.ensures.wrote, b.put_count-settled.ensures.upper_bound) (b.put_count-boxes.ensures.wrote, b.put_count-boxes.ensures.upper_bound)
-    (c.put_count-planes.ensures.wrote, c.put_count-planes.ensures.upper_bound) (c.put_count.ensures.wrote, c.put_count.ensures.upper_bound)).0;
+          (b.put_count-settled.ensures.wrote, b.put_count-settled.ensures.upper_bound) (b.put_count-boxes.ensures.wrote, b.put_count-boxes.ensures.upper_bound)
+          (c.put_count-planes.ensures.wrote, c.put_count-planes.ensures.upper_bound) (c.put_count.ensures.wrote, c.put_count.ensures.upper_bound)).0;
       upper_bound = (settled_are args.out.now args.at args.c (search rules)
-    (b.put_count-settled.ensures.wrote, b.put_count-settled.ensures.upper_bound) (b.put_count-boxes.ensures.wrote, b.put_count-boxes.ensures.upper_bound)
-    (c.put_count-planes.ensures.wrote, c.put_count-planes.ensures.upper_bound) (c.put_count.ensures.wrote, c.put_count.ensures.upper_bound)).1;
+          (b.put_count-settled.ensures.wrote, b.put_count-settled.ensures.upper_bound) (b.put_count-boxes.ensures.wrote, b.put_count-boxes.ensures.upper_bound)
+          (c.put_count-planes.ensures.wrote, c.put_count-planes.ensures.upper_bound) (c.put_count.ensures.wrote, c.put_count.ensures.upper_bound)).1;
     }

@@ -7,14 +7,14 @@ use Rattle.regions.proofs.absorb.Goals as goal
 
 pub loop-s-init : goal.loop-s-init
 loop-s-init c = record {
-      same = refl;
-      fewer = omega arith;
-      kept = search rules;
-      fuel = c.args.n;
-      enough = omega arith;
-      follows = refl;
-      rest = refl;
-    }
+  same = refl;
+  fewer = omega arith;
+  kept = search rules;
+  fuel = c.args.n;
+  enough = omega arith;
+  follows = refl;
+  rest = refl;
+}
 
 pub loop-s-preserved : goal.loop-s-preserved
 loop-s-preserved c = let w = c.sweep-s-in-loop-s in
@@ -25,7 +25,7 @@ pub returns : goal.returns
 returns c = let w = c.sweep-s in
     record {
       value = (absorbed _ _ _ _ _ _ _ _ _ (search rules) (search rules) w.ensures.grown_value.0 w.ensures.grown_value.1 w.ensures.out_after.0 w.ensures.out_after.1
-    c.loop-s.invariant (search rules) c.store.ensures).0;
+          c.loop-s.invariant (search rules) c.store.ensures).0;
       out_after = (absorbed _ _ _ _ _ _ _ _ _ (search rules) (search rules) w.ensures.grown_value.0 w.ensures.grown_value.1 w.ensures.out_after.0 w.ensures.out_after.1
-    c.loop-s.invariant (search rules) c.store.ensures).1;
+          c.loop-s.invariant (search rules) c.store.ensures).1;
     }

@@ -19,9 +19,9 @@ pub returns : goal.returns
 returns c =
     let p = c.loop-j.invariant in
     let q = insert_done _ _ _ _ _ _ p (search rules) _ _
-      (elim c.loop-j-test.branch [
-        then-loop-j-test+else-out-j w ↦ stop_here _ _ _ _ _ _ p (search rules) w.loop-j-test.true w.if-out-j.false
+    (elim c.loop-j-test.branch [
+      | then-loop-j-test+else-out-j w ↦ stop_here _ _ _ _ _ _ p (search rules) w.loop-j-test.true w.if-out-j.false
       | else-loop-j-test w ↦ stop_end _ _ _ _ _ _ p (search rules) w.loop-j-test.false
-      ])
-      c.store-2.ensures c.load-r.ensures in
+    ])
+    c.store-2.ensures c.load-r.ensures in
     record { out_after = q.0; out_unchanged = q.1 }

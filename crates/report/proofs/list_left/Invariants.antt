@@ -9,7 +9,7 @@ use Rattle.report.specs.Reports.{left_regions}
 use Rattle.report.proofs.list_left.Given as goal
 
 abbrev pub invariant-loop-k : goal.invariant-loop-k
-invariant-loop-k l = 
+invariant-loop-k l =
     (length l.raw ≡ length l.initial.raw) × (l.k ≤ l.n) × (l.raw ≡ patch l.initial.raw (l.given * 10) (flats (left_regions geometry l.st l.nets1 l.nets2 l.ranges l.k)))
 
 abbrev pub decreases-loop-k : goal.decreases-loop-k

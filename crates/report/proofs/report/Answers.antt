@@ -51,7 +51,7 @@ mark-requires c = let args = c.args in
     (few.0, (let f = few.1 in search rules), few.2)
 
 pub shape_of-raw : goal.shape_of-raw
-shape_of-raw c = c.list_left.kept.1.1.1.1.0
+shape_of-raw c = c.list_left.auto.raw
 
 pub returns : goal.returns
 returns c = let args = c.args in

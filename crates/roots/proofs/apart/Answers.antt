@@ -5,12 +5,12 @@ use Rattle.roots.proofs.apart.Goals as goal
 
 pub returns-then-field-eq0 : goal.returns-then-field-eq0
 returns-then-field-eq0 c = let h = c.shifted-s in (
-      h.ensures.1,
-      h.ensures.2,
-      omega arith,
-      subnormal_value c.args.b h.result.m h.result.by c.if-field-eq0.true h.ensures.0
-          h.ensures.3,
-    )
+  h.ensures.1,
+  h.ensures.2,
+  omega arith,
+  subnormal_value c.args.b h.result.m h.result.by c.if-field-eq0.true h.ensures.0
+      h.ensures.3,
+)
 
 pub returns : goal.returns
 returns c = (omega arith, omega arith, omega arith, normal_value c.args.b c.requires.1 c.if-field-eq0.false)

@@ -1,5 +1,5 @@
 -- `digits`: the invariant says that the root and the remainder so far make up the digits that are down, and `top` has the rest. Assumes nothing.
-use Prim.Native.Nat.{◌+◌, ◌-◌, ◌*◌}
+use Prim.Native.Nat.{◌+◌, ◌*◌}
 use native.Mathlib.Omega.{arith}
 use borrow.Author.Rules.{rules}
 use Rattle.roots.proofs.Laws.{turn, fewer, small, done}
@@ -24,7 +24,7 @@ loop-i-preserved c = let l = c.loop-i in
 
 pub returns : goal.returns
 returns c = let l = c.loop-i in (
-      done c.args.m (l.r.root * l.r.root + l.r.rem) l.top l.i l.invariant.1 l.invariant.4 (omega arith),
-      l.invariant.2,
-      small l.r.root l.i l.invariant.3 l.invariant.0,
-    )
+  done c.args.m (l.r.root * l.r.root + l.r.rem) l.top l.i l.invariant.1 l.invariant.4 (omega arith),
+  l.invariant.2,
+  small l.r.root l.i l.invariant.3 l.invariant.0,
+)

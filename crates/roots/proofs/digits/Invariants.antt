@@ -4,7 +4,7 @@ use Prim.Native.Nat.{◌+◌, ◌-◌, ◌*◌, ◌^◌, ◌≤◌, ◌<◌}
 use Rattle.roots.proofs.digits.Given as goal
 
 abbrev pub invariant-loop-i : goal.invariant-loop-i
-invariant-loop-i l = 
+invariant-loop-i l =
     (l.i ≤ 53) × ((l.r.root * l.r.root + l.r.rem) * 2 ^ 64 + l.top ≡ l.m * 1024 * 4 ^ l.i) × (l.r.rem ≤ 2 * l.r.root) × (l.r.root < 2 ^ l.i) × (l.top < 2 ^ 64)
 
 abbrev pub decreases-loop-i : goal.decreases-loop-i

@@ -7,10 +7,10 @@ use Rattle.roots.proofs.root_bits.Goals as goal
 
 pub overflow_add-result-2 : goal.overflow_add-result-2
 overflow_add-result-2 c = omega (
-      arith,
-      range c.evened.result c.nearest_whole.result c.evened.ensures.0 c.evened.ensures.1
-          c.nearest_whole.ensures,
-    )
+  arith,
+  range c.evened.result c.nearest_whole.result c.evened.ensures.0 c.evened.ensures.1
+      c.nearest_whole.ensures,
+)
 
 pub returns : goal.returns
 returns c = let b = c.args.b in

@@ -1,6 +1,5 @@
 -- `shifted`: the invariant says that x is m shifted by `by` places. Assumes nothing.
 use mathlib.Core.Path.{sym}
-use Prim.Native.Nat.{◌-◌}
 use native.Mathlib.Nat.{mul-one}
 use native.Mathlib.Omega.{arith}
 use borrow.Author.Rules.{rules}

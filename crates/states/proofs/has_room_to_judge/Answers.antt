@@ -13,10 +13,10 @@ returns-then-nets1-nodes c = simp (lt-leb _ _ c.if-nets1-nodes.true)
 
 pub overflow_mul-nodes-2 : goal.overflow_mul-nodes-2
 overflow_mul-nodes-2 c = omega (
-      arith,
-      product_fits (c.args.st.tally.pairs + 64) (4 * c.args.st.width2) (omega arith)
-          (omega arith),
-    )
+  arith,
+  product_fits (c.args.st.tally.pairs + 64) (4 * c.args.st.width2) (omega arith)
+      (omega arith),
+)
 
 pub returns-then-nets2-nodes : goal.returns-then-nets2-nodes
 returns-then-nets2-nodes c = simp (le-leb _ _ c.if-nets1-nodes.false, lt-leb _ _ c.if-nets2-nodes.true)

@@ -9,19 +9,19 @@ returns-then-not-top_fits c = simp (sym c.top_fits.ensures ∙ not-true _ c.if-n
 
 pub returns-then-t-splits : goal.returns-then-t-splits
 returns-then-t-splits c = simp (
-      sym c.top_fits.ensures
-          ∙ not-false _ c.if-not-top_fits.false-raw,
-      ne_eqb _ _ c.if-t-splits.true,
-    )
+  sym c.top_fits.ensures
+      ∙ not-false _ c.if-not-top_fits.false-raw,
+  ne_eqb _ _ c.if-t-splits.true,
+)
 
 pub returns-then-splits-t : goal.returns-then-splits-t
 returns-then-splits-t c = simp (
-      sym c.top_fits.ensures
-          ∙ not-false _ c.if-not-top_fits.false-raw,
-      eq-eqb _ _ c.if-t-splits.false,
-      sym c.allowance.ensures,
-      ne_eqb _ _ c.if-splits-t.true,
-    )
+  sym c.top_fits.ensures
+      ∙ not-false _ c.if-not-top_fits.false-raw,
+  eq-eqb _ _ c.if-t-splits.false,
+  sym c.allowance.ensures,
+  ne_eqb _ _ c.if-splits-t.true,
+)
 
 pub returns-then-not-tags_sum : goal.returns-then-not-tags_sum
 returns-then-not-tags_sum c = fourth_fails _ _ _ _ _

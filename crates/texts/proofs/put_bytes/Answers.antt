@@ -10,11 +10,11 @@ loop-i-init c = (search rules, search rules, paste-zero c.args.out.now c.args.at
 
 pub loop-i-preserved : goal.loop-i-preserved
 loop-i-preserved c = let args = c.args in (
-      search rules,
-      search rules,
-      copy_turn args.out.now args.at args.text.now c.loop-i.i c.loop-i.invariant.2 (search rules)
-          (search rules),
-    )
+  search rules,
+  search rules,
+  copy_turn args.out.now args.at args.text.now c.loop-i.i c.loop-i.invariant.2 (search rules)
+      (search rules),
+)
 
 pub returns : goal.returns
 returns c = let args = c.args in

@@ -20,12 +20,12 @@ hex_digit-requires c = omega (arith, mod-lt c.loop-i.left {m = c.args.base} (sea
 
 pub loop-i-preserved : goal.loop-i-preserved
 loop-i-preserved c = let loop = c.loop-i in (
-      search rules,
-      search rules,
-      search rules,
-      digits_turn loop.out c.args.at loop.i c.args.base loop.left
-          c.hex_digit.result (search rules) (search rules) c.hex_digit.ensures ∙ loop.invariant.3,
-    )
+  search rules,
+  search rules,
+  search rules,
+  digits_turn loop.out c.args.at loop.i c.args.base loop.left
+      c.hex_digit.result (search rules) (search rules) c.hex_digit.ensures ∙ loop.invariant.3,
+)
 
 pub returns : goal.returns
 returns c = digits_none c.loop-i.out c.args.at c.loop-i.i c.args.base

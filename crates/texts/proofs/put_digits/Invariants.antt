@@ -7,7 +7,7 @@ use Rattle.texts.specs.Texts.{digits_of}
 use Rattle.texts.proofs.put_digits.Given as goal
 
 abbrev pub invariant-loop-i : goal.invariant-loop-i
-invariant-loop-i l = 
+invariant-loop-i l =
     (length l.out ≡ length l.initial.out) × (l.at ≤ l.i) × (l.i ≤ l.at + l.k) × (patch l.out l.at (digits_of l.base (l.i - l.at) l.left) ≡ patch l.initial.out l.at (digits_of l.base l.k l.n))
 
 abbrev pub decreases-loop-i : goal.decreases-loop-i

@@ -15,7 +15,7 @@ shape_of-out c = let args = c.args in
 
 pub returns : goal.returns
 returns c = let args = c.args in (
-      omega (arith, float_length args.x),
-      float_is args.out.now args.at c.bits.result args.x (search rules)
-          c.bits.ensures c.put_digits.ensures,
-    )
+  omega (arith, float_length args.x),
+  float_is args.out.now args.at c.bits.result args.x (search rules)
+      c.bits.ensures c.put_digits.ensures,
+)

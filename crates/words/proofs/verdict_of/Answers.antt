@@ -13,16 +13,16 @@ returns-then-n-eq5 c = simp (ne_eqb _ _ c.if-n-eq1.false, ne_eqb _ _ c.if-n-eq4.
 
 pub returns-then-n-eq2 : goal.returns-then-n-eq2
 returns-then-n-eq2 c = simp (
-      ne_eqb _ _ c.if-n-eq1.false,
-      ne_eqb _ _ c.if-n-eq4.false,
-      ne_eqb _ _ c.if-n-eq5.false,
-      eq-eqb _ _ c.if-n-eq2.true,
-    )
+  ne_eqb _ _ c.if-n-eq1.false,
+  ne_eqb _ _ c.if-n-eq4.false,
+  ne_eqb _ _ c.if-n-eq5.false,
+  eq-eqb _ _ c.if-n-eq2.true,
+)
 
 pub returns : goal.returns
 returns c = simp (
-      ne_eqb _ _ c.if-n-eq1.false,
-      ne_eqb _ _ c.if-n-eq4.false,
-      ne_eqb _ _ c.if-n-eq5.false,
-      ne_eqb _ _ c.if-n-eq2.false,
-    )
+  ne_eqb _ _ c.if-n-eq1.false,
+  ne_eqb _ _ c.if-n-eq4.false,
+  ne_eqb _ _ c.if-n-eq5.false,
+  ne_eqb _ _ c.if-n-eq2.false,
+)

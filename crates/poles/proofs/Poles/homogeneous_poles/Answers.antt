@@ -13,13 +13,13 @@ unfolding homogeneous_poles
 loop-i-preserved c =
     let at = homogeneous_of c.args.self.coords.now c.args.self.weights.now in
     let few : 4 * c.len-n.result ≤ length c.loop-i.out = omega arith in
-    let e = c.put.ensures ∙ ap (λ (p : Point4D). take (4 * c.loop-i.i) c.loop-i.out ++ (p.x ∷ p.y ∷ p.z ∷ p.w ∷ drop (4 * c.loop-i.i + 4) c.loop-i.out)) c.homogeneous.ensures in
-    ( omega arith,
+    let e = c.put.ensures ∙ ap (λ (p : Point4D). take (4 * c.loop-i.i) c.loop-i.out ++ (p.x ∷ p.y ∷ p.z ∷ p.w ∷ drop (4 * c.loop-i.i + 4) c.loop-i.out)) c.homogeneous.ensures in (
+      omega arith,
       search rules,
       fill4_turn (λ (n i : ℕ). homogeneous_poles c.args.self.coords.now c.args.self.weights.now n i)
-      (λ (k : ℕ). (at k).x) (λ (k : ℕ). (at k).y) (λ (k : ℕ). (at k).z) (λ (k : ℕ). (at k).w) (λ (n i : ℕ). refl)
-      c.loop-i.out c.put.new.s c.len-n.result c.loop-i.i (omega arith) few e
-      ∙ c.loop-i.invariant.2,
+          (λ (k : ℕ). (at k).x) (λ (k : ℕ). (at k).y) (λ (k : ℕ). (at k).z) (λ (k : ℕ). (at k).w) (λ (n i : ℕ). refl)
+          c.loop-i.out c.put.new.s c.len-n.result c.loop-i.i (omega arith) few e
+          ∙ c.loop-i.invariant.2,
     )
 
 pub returns : goal.returns
