@@ -7,7 +7,8 @@ ghost use Rattle.std.specs.Float.Ieee.{of_bits, to_bits};
 ghost use Rattle.roots.specs.Root.{root_of};
 ghost use Rattle.roots_run.specs.Words.{word_at};
 
-use libc::{STDIN_FILENO, STDOUT_FILENO};
+use std::io;
+use std::io::Write;
 
 fn wide(x: u8) -> u64
     ensures { (result ≡ x) × (result < 256) }
@@ -55,7 +56,7 @@ fn hex_digit(n: u64) -> u8
     }
 }
 
-fn print_line(n: u64) {
+fn print_line<W: Write>(to: &mut W, n: u64) -> io::Result<()> {
     let mut out = [b'\n'; 17];
     let mut left = n;
     let mut i = 16;
@@ -64,19 +65,20 @@ fn print_line(n: u64) {
         out[i] = hex_digit(left % 16);
         left = left / 16;
     }
-    io::write_all(STDOUT_FILENO, &out);
+    to.write_all(&out)
 }
 
-fn print_roots(s: &[u8]) {
+fn print_roots<W: Write>(to: &mut W, s: &[u8]) -> io::Result<()> {
     let mut at = 0usize;
     while s.len() - at >= 8 {
-        print_line(root_pattern(word(s, at)));
+        print_line(to, root_pattern(word(s, at)))?;
         at += 8;
     }
+    Ok(())
 }
 
-fn main() {
-    let mut buf = io::large_buffer();
-    let n = io::read_full(STDIN_FILENO, &mut buf);
-    print_roots(&buf[..n]);
+fn main(rt: HostRuntime) -> io::Result<()> {
+    let mut buf = [0u8; 65536];
+    let n = streams::read_full(&mut rt.stdin(), &mut buf)?;
+    print_roots(&mut rt.stdout(), &buf[..n])
 }
