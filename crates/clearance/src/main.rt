@@ -4,7 +4,8 @@
 ghost use Rattle.std.specs.Prelude.{◌≡◌, length};
 ghost use Rattle.sheet.specs.Answers.{longest};
 
-use libc::{STDERR_FILENO, STDIN_FILENO, STDOUT_FILENO};
+use std::io;
+use std::io::Write;
 
 // A word more than the longest sheet, so that a longer input is seen to be one.
 fn sheet_room() -> [u8; 16388]
@@ -21,19 +22,16 @@ fn answer_room() -> [u8; 162446]
 }
 
 // An instalment on standard output; whether that took the whole of it, and a line on standard error where it didn't.
-fn print_part(text: &[u8]) -> bool {
-    if io::write_all(STDOUT_FILENO, text) {
+fn print_part<W: Write, E: Write>(to: &mut W, errors: &mut E, text: &[u8]) -> bool {
+    if to.write_all(text).is_ok() {
         return true;
     }
-    io::write_all(
-        STDERR_FILENO,
-        b"clearance: the answer could not be written whole\n",
-    );
+    let _ = errors.write_all(b"clearance: the answer could not be written whole\n");
     false
 }
 
 // The answer in instalments: at most 64 reports, the last line and one more.
-fn print_answer(s: &[u8], out: &mut [u8]) {
+fn print_answer<W: Write, E: Write>(to: &mut W, errors: &mut E, s: &[u8], out: &mut [u8]) {
     let mut good = true;
     let mut k = 0usize;
     while k < 66 {
@@ -42,7 +40,7 @@ fn print_answer(s: &[u8], out: &mut [u8]) {
         if n > out.len() {
             return;
         }
-        if !print_part(&out[..n]) {
+        if !print_part(to, errors, &out[..n]) {
             return;
         }
         if !part.more {
@@ -53,9 +51,10 @@ fn print_answer(s: &[u8], out: &mut [u8]) {
     }
 }
 
-fn main() {
+fn main(rt: HostRuntime) -> io::Result<()> {
     let mut s = sheet_room();
     let mut out = answer_room();
-    let n = io::read_full(STDIN_FILENO, &mut s);
-    print_answer(&s[..n], &mut out);
+    let n = streams::read_full(&mut rt.stdin(), &mut s)?;
+    print_answer(&mut rt.stdout(), &mut rt.stderr(), &s[..n], &mut out);
+    Ok(())
 }

@@ -4,6 +4,8 @@
 ghost use Rattle.std.specs.Prelude.{◌≡◌, ◌+◌, ◌*◌, ◌<◌, ◌≤◌, length};
 
 use boxes::Aabb;
+use std::io;
+use std::io::{Read, Write};
 use verdicts::{Test, Verdict};
 
 fn wide(x: u8) -> u64
@@ -13,12 +15,12 @@ fn wide(x: u8) -> u64
 }
 
 // The next eight bytes, low byte first.
-fn read_word() -> u64 {
+fn read_word<R: Read>(from: &mut R) -> io::Result<u64> {
     let mut s = [0u8; 8];
-    io::read_full(0, &mut s);
+    streams::read_full(from, &mut s)?;
     let low = wide(s[0]) + wide(s[1]) * 256 + wide(s[2]) * 65536 + wide(s[3]) * 16777216;
     let high = wide(s[4]) + wide(s[5]) * 256 + wide(s[6]) * 65536 + wide(s[7]) * 16777216;
-    low + high * 4294967296
+    Ok(low + high * 4294967296)
 }
 
 // The float of any pattern: a NaN's pattern is never handed to `from_bits`.
@@ -47,7 +49,7 @@ fn digit(n: u64) -> u8
 }
 
 // Sixteen hexadecimal digits and a space.
-fn print_bits(x: f64) {
+fn print_bits<W: Write>(to: &mut W, x: f64) -> io::Result<()> {
     let mut out = [32u8; 17];
     let mut left = bits(x);
     let mut i = 16;
@@ -56,67 +58,62 @@ fn print_bits(x: f64) {
         out[i] = digit(left % 16);
         left = left / 16;
     }
-    io::write_all(1, &out);
+    to.write_all(&out)
 }
 
-fn print_net(s: &[f64]) {
+fn print_net<W: Write>(to: &mut W, s: &[f64]) -> io::Result<()> {
     let mut i = 0;
     while i < s.len() {
-        print_bits(s[i]);
+        print_bits(to, s[i])?;
         i += 1;
     }
-    io::write_all(1, b"\n");
+    to.write_all(b"\n")
 }
 
 // The corners, zeros as +0, and the size.
-fn print_box(b: Aabb) {
-    print_bits(b.x0 + 0.0);
-    print_bits(b.y0 + 0.0);
-    print_bits(b.z0 + 0.0);
-    print_bits(b.x1 + 0.0);
-    print_bits(b.y1 + 0.0);
-    print_bits(b.z1 + 0.0);
-    print_bits(boxes::box_size(b));
-    io::write_all(1, b"\n");
+fn print_box<W: Write>(to: &mut W, b: Aabb) -> io::Result<()> {
+    print_bits(to, b.x0 + 0.0)?;
+    print_bits(to, b.y0 + 0.0)?;
+    print_bits(to, b.z0 + 0.0)?;
+    print_bits(to, b.x1 + 0.0)?;
+    print_bits(to, b.y1 + 0.0)?;
+    print_bits(to, b.z1 + 0.0)?;
+    print_bits(to, boxes::box_size(b))?;
+    to.write_all(b"\n")
 }
 
-fn print_flag(flag: bool) {
+fn print_flag<W: Write>(to: &mut W, flag: bool) -> io::Result<()> {
     if flag {
-        io::write_all(1, b" yes");
+        to.write_all(b" yes")
     } else {
-        io::write_all(1, b" no");
+        to.write_all(b" no")
     }
 }
 
-fn print_test(t: Test) {
+fn print_test<W: Write>(to: &mut W, t: Test) -> io::Result<()> {
     match t {
-        Test::Box => io::write_all(1, b"box"),
-        Test::Plane => io::write_all(1, b"plane"),
-        Test::Line => io::write_all(1, b"line"),
-    };
+        Test::Box => to.write_all(b"box"),
+        Test::Plane => to.write_all(b"plane"),
+        Test::Line => to.write_all(b"line"),
+    }
 }
 
 // A settled pair by the test that passed.
-fn print_verdict(v: Verdict) {
+fn print_verdict<W: Write>(to: &mut W, v: Verdict) -> io::Result<()> {
     match v {
-        Verdict::Settled(t) => {
-            print_test(t);
-        }
-        Verdict::Split => {
-            io::write_all(1, b"split");
-        }
-        Verdict::Unseparated => {
-            io::write_all(1, b"unseparated");
-        }
+        Verdict::Settled(t) => print_test(to, t),
+        Verdict::Split => to.write_all(b"split"),
+        Verdict::Unseparated => to.write_all(b"unseparated"),
     }
 }
 
-fn read_net(s: &mut [f64]) {
+fn read_net<R: Read>(from: &mut R, s: &mut [f64]) -> io::Result<()> {
     let mut i = 0;
     while i < s.len() {
-        s[i] = float(read_word());
+        s[i] = float(read_word(from)?);
         i += 1;
     }
+    Ok(())
 }
 
 // Two slots of up to 32 points.
@@ -132,62 +129,74 @@ fn width(n: u64) -> usize
     if n < 32 { n as usize } else { 32 }
 }
 
-fn print_halves(s: &mut [f64], w: usize)
+fn print_halves<W: Write>(to: &mut W, s: &mut [f64], w: usize) -> io::Result<()>
     requires { 2 * (4 * w) ≤ length s.old }
 {
     nets::halve_slot(s, 0, w);
-    let to = 4 * w;
-    let end = to + 4 * w;
-    print_net(&s[to..end]);
-    print_net(&s[..to]);
+    let mid = 4 * w;
+    let end = mid + 4 * w;
+    print_net(to, &s[mid..end])?;
+    print_net(to, &s[..mid])
 }
 
-fn print_tests(first: &[f64], second: &[f64], gap: f64) {
+fn print_tests<W: Write>(to: &mut W, first: &[f64], second: &[f64], gap: f64) -> io::Result<()> {
     let judged = clearing::judge_boxes(first, second, gap);
     let a = judged.a;
     let b = judged.b;
-    print_verdict(clearing::judge(first, second, gap));
-    print_flag(boxes::boxes_apart(a, b, gap));
-    print_flag(!boxes::second_halved(a, b));
-    io::write_all(1, b"\n");
-    print_box(boxes::net_box(first));
-    print_box(b);
+    print_verdict(to, clearing::judge(first, second, gap))?;
+    print_flag(to, boxes::boxes_apart(a, b, gap))?;
+    print_flag(to, !boxes::second_halved(a, b))?;
+    to.write_all(b"\n")?;
+    print_box(to, boxes::net_box(first))?;
+    print_box(to, b)
 }
 
 // Reads both nets into their slot 0, judges them from slot 1, and halves them.
-fn run_nets(s: &mut [f64], v: usize, t: &mut [f64], w: usize, gap: f64)
+fn run_nets<R: Read, W: Write>(
+    from: &mut R,
+    to: &mut W,
+    s: &mut [f64],
+    v: usize,
+    t: &mut [f64],
+    w: usize,
+    gap: f64,
+) -> io::Result<()>
     requires { (length s.old ≡ 256) × (length t.old ≡ 256) × (v ≤ 32) × (w ≤ 32) }
 {
     let n = 4 * v;
     let m = 4 * w;
-    read_net(&mut s[..n]);
-    read_net(&mut t[..m]);
+    read_net(from, &mut s[..n])?;
+    read_net(from, &mut t[..m])?;
     nets::copy_slot(s, 0, v);
     nets::copy_slot(t, 0, w);
     print_tests(
+        to,
         nets::net_of(s, t, 1, 1, v),
         nets::net_of(s, t, 2, 1, w),
         gap,
-    );
-    print_halves(s, v);
-    print_halves(t, w);
+    )?;
+    print_halves(to, s, v)?;
+    print_halves(to, t, w)
 }
 
-fn run_case() {
-    let v = width(read_word());
-    let w = width(read_word());
-    let gap = float(read_word());
+fn run_case<R: Read, W: Write>(from: &mut R, to: &mut W) -> io::Result<()> {
+    let v = width(read_word(from)?);
+    let w = width(read_word(from)?);
+    let gap = float(read_word(from)?);
     let mut s = slots();
     let mut t = slots();
-    run_nets(&mut s, v, &mut t, w, gap);
+    run_nets(from, to, &mut s, v, &mut t, w, gap)
 }
 
 // The number of pairs; then of each the two widths, the gap and the two nets.
-fn main() {
-    let n = read_word();
+fn main(rt: HostRuntime) -> io::Result<()> {
+    let mut from = rt.stdin();
+    let mut to = rt.stdout();
+    let n = read_word(&mut from)?;
     let mut i = 0u64;
     while i < n {
-        run_case();
+        run_case(&mut from, &mut to)?;
         i += 1;
     }
+    Ok(())
 }

@@ -4,14 +4,15 @@
 // and the multiplicities as words; a question is two lines, the gap and S. Words have 32 bits, floats 64, low byte first.
 #![tactic(auto)]
 
-ghost use Rattle.std.specs.Prelude.{◌≡◌, false, ◌+◌, ◌*◌, ◌<◌, ◌≤◌, ◌^◌, length};
+ghost use Rattle.std.specs.Prelude.{◌≡◌, false, ◌+◌, ◌*◌, ◌<◌, ◌≤◌, ◌^◌, length, IfOk};
 ghost use Rattle.lines.specs.declared.Admission.TheVariants.{Admitted};
 ghost use Rattle.lines.specs.Lines.{line_of};
 ghost use Rattle.lines.specs.Admit.{admit_of};
 
-use libc::{STDIN_FILENO, STDOUT_FILENO};
 use lines::Admission;
 use questions::Asked;
+use std::io;
+use std::io::{Read, Write};
 
 // The counts of a line; `ok` says that they were read and that the memory lent here holds so many.
 #[derive(Clone, Copy)]
@@ -147,14 +148,14 @@ fn none() -> Header
     }
 }
 
-fn read_header() -> Header
-    ensures { (result.knots ≤ 131) × (result.mults ≤ 131) × (result.coords ≤ 401) × (result.weights ≤ 131) }
+fn read_header<R: Read>(from: &mut R) -> io::Result<Header>
+    ensures { IfOk result (λ h. (h.knots ≤ 131) × (h.mults ≤ 131) × (h.coords ≤ 401) × (h.weights ≤ 131)) }
 {
     let mut b = room20();
-    if io::read_full(STDIN_FILENO, &mut b) < 20 {
-        return none();
+    if streams::read_full(from, &mut b)? < 20 {
+        return Ok(none());
     }
-    header_of(&b)
+    Ok(header_of(&b))
 }
 
 fn put_floats(bytes: &[u8], out: &mut [f64])
@@ -178,34 +179,34 @@ fn put_words(bytes: &[u8], out: &mut [u32])
 }
 
 // Fills `out` from the input, and answers whether there was enough.
-fn read_floats(out: &mut [f64]) -> bool
+fn read_floats<R: Read>(from: &mut R, out: &mut [f64]) -> io::Result<bool>
     requires { length out.old ≤ 1000 }
 {
     let mut b = room8000();
     let n = 8 * out.len();
     let bytes = &mut b[..n];
-    let got = io::read_full(STDIN_FILENO, bytes);
+    let got = streams::read_full(from, bytes)?;
     put_floats(bytes, out);
-    got == n
+    Ok(got == n)
 }
 
-fn read_words(out: &mut [u32]) -> bool
+fn read_words<R: Read>(from: &mut R, out: &mut [u32]) -> io::Result<bool>
     requires { length out.old ≤ 400 }
 {
     let mut b = room8000();
     let n = 4 * out.len();
     let bytes = &mut b[..n];
-    let got = io::read_full(STDIN_FILENO, bytes);
+    let got = streams::read_full(from, bytes)?;
     put_words(bytes, out);
-    got == n
+    Ok(got == n)
 }
 
-fn print_refusal(number: u8, line: u8) {
-    io::write_all(STDOUT_FILENO, b"refused ");
-    io::print_decimal(STDOUT_FILENO, wide(number));
-    io::write_all(STDOUT_FILENO, b" ");
-    io::print_decimal(STDOUT_FILENO, wide(line));
-    io::write_all(STDOUT_FILENO, b"\n");
+fn print_refusal<W: Write>(to: &mut W, number: u8, line: u8) -> io::Result<()> {
+    to.write_all(b"refused ")?;
+    streams::print_decimal(to, wide(number))?;
+    to.write_all(b" ")?;
+    streams::print_decimal(to, wide(line))?;
+    to.write_all(b"\n")
 }
 
 fn hex_digit(n: u64) -> u8
@@ -226,7 +227,7 @@ fn pattern(x: f64) -> u64 {
 }
 
 // A space and the float's sixteen digits.
-fn print_float(x: f64) {
+fn print_float<W: Write>(to: &mut W, x: f64) -> io::Result<()> {
     let mut out = [b' '; 17];
     let mut left = pattern(x);
     let mut i = 16;
@@ -235,34 +236,42 @@ fn print_float(x: f64) {
         left = left / 16;
         i -= 1;
     }
-    io::write_all(STDOUT_FILENO, &out);
+    to.write_all(&out)
 }
 
-fn print_net(line: u64, number: u64, net: &[f64]) {
-    io::write_all(STDOUT_FILENO, b"piece ");
-    io::print_decimal(STDOUT_FILENO, line);
-    io::write_all(STDOUT_FILENO, b" ");
-    io::print_decimal(STDOUT_FILENO, number);
+fn print_net<W: Write>(to: &mut W, line: u64, number: u64, net: &[f64]) -> io::Result<()> {
+    to.write_all(b"piece ")?;
+    streams::print_decimal(to, line)?;
+    to.write_all(b" ")?;
+    streams::print_decimal(to, number)?;
     let mut i = 0;
     while i < net.len() {
-        print_float(net[i]);
+        print_float(to, net[i])?;
         i += 1;
     }
-    io::write_all(STDOUT_FILENO, b"\n");
+    to.write_all(b"\n")
 }
 
-fn print_nets(line: u64, n: usize, width: usize, nets: &[f64])
+fn print_nets<W: Write>(
+    to: &mut W,
+    line: u64,
+    n: usize,
+    width: usize,
+    nets: &[f64],
+) -> io::Result<()>
     requires { (width ≤ 26) × (n ≤ 256) × (n * (4 * width) ≤ length nets.now) }
 {
     let mut i = 0;
     while i < n {
-        print_net(line, i as u64, nets::slot(nets, i, width));
+        print_net(to, line, i as u64, nets::slot(nets, i, width))?;
         i += 1;
     }
+    Ok(())
 }
 
 // The nets of an admitted line.
-fn print_pieces(
+fn print_pieces<W: Write>(
+    to: &mut W,
     line: u64,
     degree: u32,
     knots: &[f64],
@@ -271,7 +280,7 @@ fn print_pieces(
     weights: &[f64],
     lo: f64,
     hi: f64,
-)
+) -> io::Result<()>
     requires { admit_of (line_of false degree knots.now mults.now coords.now weights.now) ≡ Admitted }
 {
     let n = curves::piece_count(false, knots, lo, hi);
@@ -279,10 +288,11 @@ fn print_pieces(
     curves::line_pieces(
         false, degree, knots, mults, coords, weights, lo, hi, &mut out,
     );
-    print_nets(line, n, knots::count(degree) + 1, &out);
+    print_nets(to, line, n, knots::count(degree) + 1, &out)
 }
 
-fn answer(
+fn answer<W: Write>(
+    to: &mut W,
     degree1: u32,
     knots1: &[f64],
     mults1: &[u32],
@@ -299,44 +309,43 @@ fn answer(
     hi2: f64,
     gap: f64,
     splits: u32,
-) {
+) -> io::Result<()> {
     let a = lines::admit(false, degree1, knots1, mults1, coords1, weights1);
     let Admission::Admitted = a else {
-        print_refusal(lines::admission_number(a), 1);
-        return;
+        return print_refusal(to, lines::admission_number(a), 1);
     };
     let b = lines::admit(false, degree2, knots2, mults2, coords2, weights2);
     let Admission::Admitted = b else {
-        print_refusal(lines::admission_number(b), 2);
-        return;
+        return print_refusal(to, lines::admission_number(b), 2);
     };
     let q = questions::ask(
         false, degree1, knots1, mults1, lo1, hi1, false, degree2, knots2, mults2, lo2, hi2, gap,
         splits,
     );
     let Asked::Fine = q else {
-        print_refusal(questions::asked_number(q), questions::asked_line(q));
-        return;
+        return print_refusal(to, questions::asked_number(q), questions::asked_line(q));
     };
-    print_pieces(1, degree1, knots1, mults1, coords1, weights1, lo1, hi1);
-    print_pieces(2, degree2, knots2, mults2, coords2, weights2, lo2, hi2);
+    print_pieces(to, 1, degree1, knots1, mults1, coords1, weights1, lo1, hi1)?;
+    print_pieces(to, 2, degree2, knots2, mults2, coords2, weights2, lo2, hi2)
 }
 
 // Gap and S are read, and both lines' floats are taken apart.
-fn third(
+fn third<R: Read, W: Write>(
+    from: &mut R,
+    to: &mut W,
     h1: Header,
     floats1: &[f64],
     mults1: &[u32],
     h2: Header,
     floats2: &[f64],
     mults2: &[u32],
-) -> bool
+) -> io::Result<bool>
     requires knots_bound { (h1.knots ≤ 131) × (h1.coords ≤ 401) × (h1.weights ≤ 131) × (h1.knots + h1.coords + h1.weights + 2 ≤ length floats1.now) }
     requires knots_bound_2 { (h2.knots ≤ 131) × (h2.coords ≤ 401) × (h2.weights ≤ 131) × (h2.knots + h2.coords + h2.weights + 2 ≤ length floats2.now) }
 {
     let mut b = room12();
-    if io::read_full(STDIN_FILENO, &mut b) < 12 {
-        return false;
+    if streams::read_full(from, &mut b)? < 12 {
+        return Ok(false);
     }
     let k1 = h1.knots;
     let c1 = k1 + h1.coords;
@@ -345,6 +354,7 @@ fn third(
     let c2 = k2 + h2.coords;
     let w2 = c2 + h2.weights;
     answer(
+        to,
         h1.degree,
         &floats1[..k1],
         mults1,
@@ -361,59 +371,68 @@ fn third(
         floats2[w2 + 1],
         float(&b, 0),
         small(word(&b, 8)),
-    );
-    true
+    )?;
+    Ok(true)
 }
 
-fn second(h1: Header, floats1: &[f64], mults1: &[u32]) -> bool
+fn second<R: Read, W: Write>(
+    from: &mut R,
+    to: &mut W,
+    h1: Header,
+    floats1: &[f64],
+    mults1: &[u32],
+) -> io::Result<bool>
     requires { (h1.knots ≤ 131) × (h1.coords ≤ 401) × (h1.weights ≤ 131) × (h1.knots + h1.coords + h1.weights + 2 ≤ length floats1.now) }
 {
-    let h = read_header();
+    let h = read_header(from)?;
     if !h.ok {
-        return false;
+        return Ok(false);
     }
     let n = h.knots + h.coords + h.weights + 2;
     let m = h.mults;
     let mut f = float_room();
     let floats = &mut f[..n];
-    if !read_floats(floats) {
-        return false;
+    if !read_floats(from, floats)? {
+        return Ok(false);
     }
     let mut u = mult_room();
     let mults = &mut u[..m];
-    if !read_words(mults) {
-        return false;
+    if !read_words(from, mults)? {
+        return Ok(false);
     }
-    third(h1, floats1, mults1, h, floats, mults)
+    third(from, to, h1, floats1, mults1, h, floats, mults)
 }
 
 // One question read and answered; false where the input ends.
-fn first() -> bool {
-    let h = read_header();
+fn first<R: Read, W: Write>(from: &mut R, to: &mut W) -> io::Result<bool> {
+    let h = read_header(from)?;
     if !h.ok {
-        return false;
+        return Ok(false);
     }
     let n = h.knots + h.coords + h.weights + 2;
     let m = h.mults;
     let mut f = float_room();
     let floats = &mut f[..n];
-    if !read_floats(floats) {
-        return false;
+    if !read_floats(from, floats)? {
+        return Ok(false);
     }
     let mut u = mult_room();
     let mults = &mut u[..m];
-    if !read_words(mults) {
-        return false;
+    if !read_words(from, mults)? {
+        return Ok(false);
     }
-    second(h, floats, mults)
+    second(from, to, h, floats, mults)
 }
 
-fn main() {
+fn main(rt: HostRuntime) -> io::Result<()> {
+    let mut from = rt.stdin();
+    let mut to = rt.stdout();
     let mut i = 0usize;
     while i < 1000000 {
-        if !first() {
-            return;
+        if !first(&mut from, &mut to)? {
+            return Ok(());
         }
         i += 1;
     }
+    Ok(())
 }
