@@ -6,7 +6,6 @@ use mathlib.Core.List.{List}
 use native.Mathlib.Omega.{arith}
 use lib.Ieee.{Float}
 use Rattle.nets.specs.Points.{points_of}
-use Rattle.boxes.specs.Boxes.{bounding_box, boxes_apart}
 use Rattle.boxes.specs.Nets.{out_of_measure}
 use Rattle.verdicts.specs.declared.Test.{Test}
 use Rattle.verdicts.specs.declared.Test.TheVariants.{Box, Plane, Line}
@@ -15,11 +14,9 @@ use Rattle.verdicts.specs.declared.Verdict.TheVariants.{Settled, Split, Unsepara
 use Rattle.verdicts.specs.Verdicts.{verdict_number}
 use Rattle.clearing.specs.declared.Along.{Along}
 use Rattle.clearing.specs.declared.Along.TheVariants.{Axis, Not}
-use Rattle.clearing.specs.Extents.{apart_along}
-use Rattle.clearing.specs.Chords.{separated_of}
 use Rattle.clearing.specs.Lines.{along_one_line}
 use Rattle.clearing.specs.Verdicts.{line_verdict, tests_of, verdict_of}
-use Rattle.clearing.specs.First.{apart_on_line, passes, FirstTo, FirstTest, TagIsFirst}
+use Rattle.clearing.specs.First.{apart_on_line, passes, FirstTo, TagIsFirst}
 
 -- two verdicts of different numbers are two
 differ : (u v : Verdict) → (verdict_number u ≡ verdict_number v → ⊥) → u ≡ v → ⊥

@@ -14,7 +14,7 @@ use lib.Ieee.{Float, nan, inf, fin, binary64, up, down, add, sub, neg, le, lt, f
 use lib.Ieee.Fits.{down_pos, mul-fits}
 use Rattle.lists.specs.Members.{All}
 use Rattle.lists.specs.Tests.{every, each_two, total}
-use Rattle.floats.specs.Floats.{within, middle}
+use Rattle.floats.specs.Floats.{middle}
 use Rattle.floats.specs.Sizes.{Number, Within}
 use Rattle.floats.proofs.Order.{of_fin, left_number, right_number, le_self, le_trans_float}
 use Rattle.floats.proofs.Bounds.{lt_not_le}

@@ -1,19 +1,18 @@
 -- A halving's two slots follow from the net alone. Assumes nothing.
 use mathlib.Core.Path.{◌≡◌, ap, sym, ◌∙◌}
 use mathlib.Core.List.{List, ◌++◌, append_assoc}
-use Prim.Native.Nat.{ℕ, suc, ◌+◌, ◌*◌, ◌≤◌}
+use Prim.Native.Nat.{ℕ, ◌+◌, ◌*◌, ◌≤◌}
 use native.Mathlib.Nat.{mul_comm}
 use native.Mathlib.Omega.{arith}
 use lib.ListN.{length, take, drop, length-append}
 use lib.Seq.{length-take-le, take_at, drop_at}
-use lib.Ieee.{Float}
 use Rattle.lists.specs.Parts.{block, patch}
 use Rattle.lists.proofs.Parts.{part_length, block_first, block_second}
 use Rattle.lists.proofs.Rounds.{length-remains, length-firsts}
 use Rattle.floats.specs.Floats.{middle}
 use Rattle.nets.specs.Halving.{lower_of, upper_of}
 use Rattle.nets.specs.Slots.{split_slot}
-use Rattle.nets.specs.Follow.{Halved, SlotsFollow}
+use Rattle.nets.specs.Follow.{SlotsFollow}
 
 -- what stands before and behind the written part
 written_before : {A : Type 0} (l vs : List A) (i : ℕ) → i ≤ length l → take i (patch l i vs) ≡ take i l

@@ -1,18 +1,16 @@
 -- Laws of charts: a line with its range, lines one behind the other, the question and the end, and the sheet of these. Assumes nothing.
 use mathlib.Core.Path.{◌≡◌, refl, sym, ap, ◌∙◌, subst}
 use mathlib.Core.Bool.{Bool, true, false, cond, not, ◌&&◌, ◌||◌}
-use mathlib.Core.List.{List, [], ◌∷◌}
+use mathlib.Core.List.{List, ◌∷◌}
 use Prim.Native.Nat.{ℕ, zero, suc, ◌+◌, ◌≤◌}
 use native.Mathlib.Nat.{add-zero}
 use native.Mathlib.Omega.{arith}
 use native.Mathlib.Numerals.{add-one}
 use lib.Dec.{T, eqb, ltb, eqb-suc-zero}
 use lib.ListN.{length}
-use lib.Ieee.{Float}
 use borrow.Author.Tests.{ltb-false}
-use Rattle.lines.specs.Lines as given
-use Rattle.walks.specs.Words.{word_at, kind_of, count_of, float_at}
-use Rattle.walks.specs.Sheets.{ChartLine, Chart, Walked, walked, charted, refused_as, bad_length, size_of, part_of, word_stands, line_kind, line_stands, line_after, range_after, lines_after, closing, pair_of, chart_of, walk_of}
+use Rattle.walks.specs.Words.{word_at, kind_of, float_at}
+use Rattle.walks.specs.Sheets.{ChartLine, Walked, charted, refused_as, bad_length, size_of, part_of, word_stands, line_kind, line_stands, line_after, range_after, lines_after, closing, chart_of, walk_of}
 use Rattle.walks.specs.Places.{unless, line_in, part_at, weights_at, line_at, chart_line_at, behind_at, lines_at, question_in, chart_in, sheet_in, sheet_of, LineInside, ChartLineInside, LinesInside, SheetInside, PartFits, LineFits, ChartLineFits, LinesFits, ClosingFits}
 use Rattle.walks.specs.declared.Part.{Part}
 use Rattle.walks.specs.declared.Line.{Line}

@@ -5,7 +5,6 @@ use Prim.Native.Nat.{◌+◌, ◌-◌, ◌*◌, ◌≤◌}
 use lib.ListN.{length, take, drop}
 use Rattle.blends.specs.Blends.{alpha_of}
 use Rattle.blends.specs.Table.{level_of}
-use Rattle.blends.proofs.Laws as laws
 use Rattle.blends.proofs.level.Given as goal
 
 abbrev pub invariant-loop-i : goal.invariant-loop-i

@@ -4,7 +4,6 @@ use Prim.Native.Nat.{◌-◌, ◌≤◌}
 use lib.ListN.{length}
 use Rattle.blends.specs.Blends.{alpha_of, end_of}
 use Rattle.blends.specs.Table.{triangle}
-use Rattle.blends.proofs.Laws as laws
 use Rattle.blends.proofs.levels.Given as goal
 
 abbrev pub invariant-loop-r : goal.invariant-loop-r

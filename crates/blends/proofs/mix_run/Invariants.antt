@@ -4,7 +4,6 @@ use mathlib.Core.List.{◌++◌}
 use Prim.Native.Nat.{◌+◌, ◌-◌, ◌≤◌}
 use lib.ListN.{length, take, drop}
 use Rattle.blends.specs.Table.{mixes}
-use Rattle.lists.proofs.Rounds as rounds
 use Rattle.blends.proofs.mix_run.Given as goal
 
 abbrev pub invariant-loop-x : goal.invariant-loop-x

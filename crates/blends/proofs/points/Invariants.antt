@@ -4,7 +4,6 @@ use mathlib.Core.List.{◌++◌}
 use Prim.Native.Nat.{◌+◌, ◌-◌, ◌*◌, ◌≤◌}
 use lib.ListN.{length, take}
 use Rattle.blends.specs.Blends.{points_from}
-use Rattle.lists.proofs.Loops as loops
 use Rattle.blends.proofs.points.Given as goal
 
 abbrev pub invariant-loop-k : goal.invariant-loop-k

@@ -5,7 +5,6 @@ use Prim.Native.Nat.{◌-◌, ◌*◌, ◌≤◌}
 use lib.ListN.{length, replicate}
 use Rattle.floats.specs.Floats.{zero64}
 use Rattle.blends.specs.Table.{units}
-use Rattle.blends.proofs.Rows as rows
 use Rattle.blends.proofs.start.Given as goal
 
 abbrev pub invariant-loop-i : goal.invariant-loop-i

@@ -3,7 +3,6 @@ use mathlib.Core.Path.{◌≡◌}
 use Prim.Native.Nat.{◌-◌, ◌≤◌}
 use Rattle.blends.specs.Blends.{nothing}
 use Rattle.blends.specs.Table.{weighed}
-use Rattle.blends.proofs.Laws as laws
 use Rattle.blends.proofs.weigh.Given as goal
 
 abbrev pub invariant-loop-j : goal.invariant-loop-j

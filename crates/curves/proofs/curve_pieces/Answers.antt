@@ -1,7 +1,6 @@
 -- Admission gives the sizes that the nets ask for, and the view's poles are the line's. Assumes nothing.
-use Rattle.std.proofs.Common.{rules, ◌≡◌, ◌+◌, ◌*◌, ◌-◌, ◌≤◌, length, take, ℕ}
+use Rattle.std.proofs.Common.{◌-◌}
 use mathlib.Core.Path.{◌∙◌}
-use native.Mathlib.Omega.{arith}
 use Rattle.lines.specs.Lines.{line_of}
 use Rattle.lines.proofs.Admitted.{counts}
 use Rattle.curves.proofs.Laws.{pieces_of_lem}

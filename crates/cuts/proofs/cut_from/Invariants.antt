@@ -3,7 +3,6 @@ use mathlib.Core.Path.{◌≡◌}
 use Prim.Native.Nat.{◌-◌, ◌*◌, ◌≤◌}
 use lib.ListN.{length}
 use Rattle.cuts.specs.Cuts.{from_of}
-use Rattle.lists.proofs.Rounds as rounds
 use Rattle.cuts.proofs.cut_from.Given as goal
 
 abbrev pub invariant-loop-r : goal.invariant-loop-r

@@ -4,7 +4,6 @@ use mathlib.Core.List.{◌++◌}
 use Prim.Native.Nat.{◌+◌, ◌-◌, ◌*◌, ◌≤◌}
 use lib.ListN.{length, take}
 use Rattle.cuts.specs.Cuts.{up_to_of}
-use Rattle.lists.proofs.Rounds as rounds
 use Rattle.cuts.proofs.cut_to.Given as goal
 
 abbrev pub invariant-loop-r : goal.invariant-loop-r

@@ -4,7 +4,6 @@ use mathlib.Core.List.{◌++◌}
 use Prim.Native.Nat.{◌-◌, ◌≤◌}
 use lib.ListN.{length, take, drop}
 use Rattle.cuts.specs.Cuts.{lerps}
-use Rattle.lists.proofs.Rounds as rounds
 use Rattle.cuts.proofs.lerp_round.Given as goal
 
 abbrev pub invariant-loop-x : goal.invariant-loop-x

@@ -1,9 +1,6 @@
 -- `bounds` is its definition, one case a return. Assumes nothing.
 use mathlib.Core.Path.{refl}
 use Rattle.knots.specs.Knots.{bounds_in}
-use Rattle.knots.proofs.bounds.Reads as reads
-use Rattle.knots.proofs.bounds.Lts as lts
-use Rattle.knots.proofs.open_bounds.Reads as open-bounds-reads
 use Rattle.knots.proofs.bounds.Goals as goal
 
 pub returns-then-closed : goal.returns-then-closed

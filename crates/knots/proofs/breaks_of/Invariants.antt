@@ -4,7 +4,6 @@ use mathlib.Core.List.{[], ◌∷◌, ◌++◌}
 use Prim.Native.Nat.{◌+◌, ◌-◌, ◌≤◌}
 use lib.ListN.{length, take, drop}
 use Rattle.knots.specs.Knots.{between, breaks_in}
-use Rattle.knots.proofs.Laws as laws
 use Rattle.knots.proofs.breaks_of.Given as goal
 
 abbrev pub invariant-loop-i : goal.invariant-loop-i

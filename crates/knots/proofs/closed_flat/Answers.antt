@@ -5,12 +5,6 @@ use native.Mathlib.Omega.{arith}
 use lib.ListN.{length}
 use lib.Seq.{length-take-le}
 use Rattle.knots.proofs.Laws as laws
-use Rattle.knots.proofs.closed_flat.Reads as reads
-use Rattle.knots.proofs.closed_flat.Lts as lts
-use Rattle.knots.proofs.count.Reads as count-reads
-use Rattle.knots.proofs.flat_knots.Reads as flat-knots-reads
-use Rattle.knots.proofs.flat_room.Reads as flat-room-reads
-use Rattle.knots.proofs.flat_turn.Reads as flat-turn-reads
 use Rattle.knots.proofs.closed_flat.Goals as goal
 
 pub overflow_sub-n : goal.overflow_sub-n

@@ -4,9 +4,7 @@ use mathlib.Core.List.{◌++◌}
 use Prim.Native.Nat.{◌+◌, ◌-◌, ◌≤◌}
 use lib.ListN.{length, take, drop}
 use Rattle.lists.specs.Tests.{total}
-use Rattle.lists.proofs.Tests as tests
 use Rattle.knots.specs.Knots.{flat_knots}
-use Rattle.knots.proofs.Laws as laws
 use Rattle.knots.proofs.flat_knots.Given as goal
 
 abbrev pub invariant-loop-i : goal.invariant-loop-i

@@ -4,10 +4,6 @@ use Prim.Native.Nat.{◌-◌}
 use native.Mathlib.Omega.{arith}
 use lib.Seq.{length-take-le}
 use Rattle.knots.proofs.Laws as laws
-use Rattle.knots.proofs.flat_turn.Reads as reads
-use Rattle.knots.proofs.flat_turn.Lts as lts
-use Rattle.knots.proofs.shift.Reads as shift-reads
-use Rattle.lists.proofs.copy_from_slice.Reads as copy-from-slice-reads
 use Rattle.knots.proofs.flat_turn.Goals as goal
 
 pub slice_bounds-shift-end-3 : goal.slice_bounds-shift-end-3

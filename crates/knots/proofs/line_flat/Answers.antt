@@ -5,10 +5,6 @@ use Rattle.lists.specs.Tests.{total}
 use Rattle.lines.specs.Admit.{beyond_of}
 use Rattle.knots.proofs.Laws as laws
 use borrow.Author.Rules.{rules}
-use Rattle.knots.proofs.line_flat.Reads as reads
-use Rattle.knots.proofs.line_flat.Lts as lts
-use Rattle.knots.proofs.closed_flat.Reads as closed-flat-reads
-use Rattle.knots.proofs.flat_knots.Reads as flat-knots-reads
 use Rattle.knots.proofs.line_flat.Goals as goal
 
 pub closed_flat-requires : goal.closed_flat-requires

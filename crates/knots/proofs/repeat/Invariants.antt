@@ -4,7 +4,6 @@ use mathlib.Core.List.{◌++◌}
 use Prim.Native.Nat.{◌+◌, ◌-◌, ◌≤◌}
 use lib.ListN.{length, take, drop}
 use Rattle.knots.specs.Knots.{repeated}
-use Rattle.knots.proofs.Laws as laws
 use Rattle.knots.proofs.repeat.Given as goal
 
 abbrev pub invariant-loop-x : goal.invariant-loop-x

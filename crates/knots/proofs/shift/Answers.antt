@@ -5,8 +5,6 @@ use native.Mathlib.Omega.{arith}
 use borrow.Author.Rules.{rules}
 use Rattle.knots.specs.Knots.{shifted}
 use Rattle.knots.proofs.Laws as laws
-use Rattle.knots.proofs.shift.Reads as reads
-use Rattle.knots.proofs.shift.Lts as lts
 use Rattle.knots.proofs.shift.Goals as goal
 
 pub loop-i-init : goal.loop-i-init

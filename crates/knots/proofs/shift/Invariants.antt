@@ -4,9 +4,6 @@ use mathlib.Core.List.{◌++◌}
 use Prim.Native.Nat.{◌-◌, ◌≤◌}
 use lib.ListN.{length, take, drop}
 use Rattle.knots.specs.Knots.{shifted}
-use Rattle.knots.proofs.Laws as laws
-use Rattle.knots.proofs.shift.Reads as reads
-use Rattle.knots.proofs.shift.Lts as lts
 use Rattle.knots.proofs.shift.Given as goal
 
 abbrev pub invariant-loop-i : goal.invariant-loop-i

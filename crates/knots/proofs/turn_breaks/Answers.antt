@@ -3,11 +3,6 @@ use mathlib.Core.Path.{sym}
 use native.Mathlib.Omega.{arith}
 use Rattle.knots.proofs.Laws as laws
 use lib.Seq.{length-take-le}
-use Rattle.knots.proofs.turn_breaks.Reads as reads
-use Rattle.knots.proofs.turn_breaks.Lts as lts
-use Rattle.knots.proofs.breaks_of.Reads as breaks-of-reads
-use Rattle.knots.proofs.turn_room.Reads as turn-room-reads
-use Rattle.knots.proofs.unrolled.Reads as unrolled-reads
 use Rattle.knots.proofs.turn_breaks.Goals as goal
 
 pub slice_bounds-breaks_of-end : goal.slice_bounds-breaks_of-end

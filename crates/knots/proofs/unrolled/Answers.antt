@@ -3,10 +3,6 @@ use mathlib.Core.Path.{sym}
 use native.Mathlib.Omega.{arith}
 use lib.Seq.{length-take-le}
 use Rattle.knots.proofs.Laws as laws
-use Rattle.knots.proofs.unrolled.Reads as reads
-use Rattle.knots.proofs.unrolled.Lts as lts
-use Rattle.knots.proofs.shift.Reads as shift-reads
-use Rattle.lists.proofs.copy_from_slice.Reads as copy-from-slice-reads
 use Rattle.knots.proofs.unrolled.Goals as goal
 
 pub slice_bounds-copy_from_slice-end-2 : goal.slice_bounds-copy_from_slice-end-2

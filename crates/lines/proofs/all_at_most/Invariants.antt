@@ -4,7 +4,6 @@ use Prim.Native.Nat.{◌-◌, ◌≤◌}
 use lib.ListN.{length, drop}
 use lib.Dec.{leb}
 use Rattle.lists.specs.Tests.{every}
-use Rattle.lists.proofs.Tests as tests
 use Rattle.lines.proofs.all_at_most.Given as goal
 
 abbrev pub invariant-loop-i : goal.invariant-loop-i

@@ -3,7 +3,6 @@ use mathlib.Core.Path.{◌≡◌}
 use Prim.Native.Nat.{◌-◌, ◌≤◌}
 use lib.ListN.{length, drop}
 use Rattle.lists.specs.Tests.{every}
-use Rattle.lists.proofs.Tests as tests
 use Rattle.floats.specs.Floats.{within}
 use Rattle.lines.proofs.all_within.Given as goal
 

@@ -1,8 +1,5 @@
 -- `beyond` is its definition, one case a return. Assumes nothing.
 use Rattle.lines.specs.Admit.{beyond_of}
-use Rattle.lines.proofs.beyond.Reads as reads
-use Rattle.lines.proofs.beyond.Lts as lts
-use Rattle.lines.proofs.wide.Reads as wide-reads
 use Rattle.lines.proofs.beyond.Goals as goal
 
 -- src/lib.rt:209:9

@@ -1,8 +1,6 @@
 -- `ends_differ` is its test, one case a return. Assumes nothing.
 use mathlib.Core.Path.{refl}
 use Rattle.lines.specs.Admit.{ends_differ}
-use Rattle.lines.proofs.ends_differ.Reads as reads
-use Rattle.lines.proofs.ends_differ.Lts as lts
 use Rattle.lines.proofs.ends_differ.Goals as goal
 
 -- src/lib.rt:161:9

@@ -4,7 +4,6 @@ use Prim.Native.Nat.{◌-◌, ◌≤◌}
 use lib.ListN.{length, drop}
 use lib.Ieee.{lt}
 use Rattle.lists.specs.Tests.{each_two}
-use Rattle.lists.proofs.Tests as tests
 use Rattle.lines.proofs.increasing.Given as goal
 
 abbrev pub invariant-loop-i : goal.invariant-loop-i

@@ -3,7 +3,6 @@ use mathlib.Core.Path.{◌≡◌}
 use Prim.Native.Nat.{◌+◌, ◌-◌, ◌*◌, ◌≤◌}
 use lib.ListN.{length, drop}
 use Rattle.lists.specs.Tests.{total}
-use Rattle.lists.proofs.Tests as tests
 use Rattle.lines.proofs.sum.Given as goal
 
 abbrev pub invariant-loop-i : goal.invariant-loop-i

@@ -2,10 +2,6 @@
 use mathlib.Core.Path.{ap}
 use mathlib.Core.Bool.{not}
 use Rattle.lines.specs.Admit.{too_large}
-use Rattle.lines.proofs.too_large.Reads as reads
-use Rattle.lines.proofs.too_large.Lts as lts
-use Rattle.lines.proofs.all_at_most.Reads as all-at-most-reads
-use Rattle.lines.proofs.ends_too_large.Reads as ends-too-large-reads
 use Rattle.lines.proofs.too_large.Goals as goal
 
 -- src/lib.rt:149:9

@@ -4,7 +4,6 @@ use mathlib.Core.List.{◌++◌}
 use Prim.Native.Nat.{◌+◌, ◌-◌, ◌*◌, ◌≤◌}
 use lib.ListN.{length, take, drop}
 use Rattle.pieces.specs.Pieces.{nets_of}
-use Rattle.pieces.proofs.Laws as laws
 use Rattle.pieces.proofs.nets.Given as goal
 
 abbrev pub invariant-loop-i : goal.invariant-loop-i

@@ -3,7 +3,6 @@ use mathlib.Core.Path.{◌≡◌}
 use Prim.Native.Nat.{◌-◌, ◌≤◌}
 use lib.ListN.{length, drop}
 use Rattle.lists.specs.Tests.{each_two}
-use Rattle.lists.proofs.Tests as tests
 use Rattle.questions.specs.Questions.{parted}
 use Rattle.questions.proofs.all_parted.Given as goal
 

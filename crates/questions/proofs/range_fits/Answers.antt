@@ -1,8 +1,5 @@
 -- `range_fits` is its test, one case a return. Assumes nothing.
 use Rattle.questions.specs.Questions.{range_fits}
-use Rattle.questions.proofs.range_fits.Reads as reads
-use Rattle.questions.proofs.range_fits.Lts as lts
-use Rattle.questions.proofs.turn_fits.Reads as turn-fits-reads
 use Rattle.questions.proofs.range_fits.Goals as goal
 
 pub returns-then-closed : goal.returns-then-closed

@@ -38,14 +38,14 @@ loop-p-preserved c = let b =
           (some_left loop.s (sym b.ended.ensures ∙ not-true _ b.loop-p-test.true-raw))
           (ap (λ (r : Stepped). stepping r (memory own-step.new.nets1 own-step.new.nets2 own-step.new.ranges
           own-step.new.depths own-step.new.raw)) (sym c.in-Next.is) ∙ own-step.ensures)
-          ∙ loop.inv.0,
-      own-step.auto.nets1 ∙ loop.inv.1,
-      own-step.auto.nets2 ∙ loop.inv.2,
-      own-step.auto.ranges ∙ loop.inv.3,
-      own-step.auto.depths ∙ loop.inv.4,
-      own-step.auto.raw ∙ loop.inv.5,
-      own-step.auto.p ∙ loop.inv.6,
-      own-step.auto.q ∙ loop.inv.7,
+          ∙ loop.invariant.0,
+      own-step.auto.nets1 ∙ loop.invariant.1,
+      own-step.auto.nets2 ∙ loop.invariant.2,
+      own-step.auto.ranges ∙ loop.invariant.3,
+      own-step.auto.depths ∙ loop.invariant.4,
+      own-step.auto.raw ∙ loop.invariant.5,
+      own-step.auto.p ∙ loop.invariant.6,
+      own-step.auto.q ∙ loop.invariant.7,
     )
 
 pub shape_of-nets1-in-Ended : goal.shape_of-nets1-in-Ended
@@ -84,7 +84,7 @@ returns-in-Ended c = let b =
     own-step.new.raw) (sym b.ended.ensures ∙ not-true _ b.loop-p-test.true-raw) (inl refl)
     (ap (λ (r : Stepped). stepping r (memory own-step.new.nets1 own-step.new.nets2 own-step.new.ranges
     own-step.new.depths own-step.new.raw)) (sym c.in-Ended.is) ∙ own-step.ensures)
-    ∙ loop.inv.0
+    ∙ loop.invariant.0
 
 pub shape_of-nets1-in-NoRoom : goal.shape_of-nets1-in-NoRoom
 shape_of-nets1-in-NoRoom c = c.own_step-out.auto.nets1
@@ -122,7 +122,7 @@ returns-in-NoRoom c = let b =
     own-step.new.raw) (sym b.ended.ensures ∙ not-true _ b.loop-p-test.true-raw) (inr refl)
     (ap (λ (r : Stepped). stepping r (memory own-step.new.nets1 own-step.new.nets2 own-step.new.ranges
     own-step.new.depths own-step.new.raw)) (sym c.in-NoRoom.is) ∙ own-step.ensures)
-    ∙ loop.inv.0
+    ∙ loop.invariant.0
 
 pub shape_of-nets1 : goal.shape_of-nets1
 shape_of-nets1 c = c.loop-p.invariant.1

@@ -2,7 +2,6 @@
 use mathlib.Core.Path.{◌≡◌}
 use Prim.Native.Nat.{◌-◌, ◌≤◌}
 use Rattle.spans.specs.Spans.{back_of}
-use Rattle.spans.proofs.Laws as laws
 use Rattle.spans.proofs.back.Given as goal
 
 abbrev pub invariant-loop-s : goal.invariant-loop-s

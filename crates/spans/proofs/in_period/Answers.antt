@@ -2,10 +2,6 @@
 use mathlib.Core.Path.{ap, ◌∙◌}
 use lib.Ieee.{Float, binary64, sub, mul}
 use Rattle.spans.specs.Spans.{start_unless, turned_back, in_period}
-use Rattle.spans.proofs.in_period.Reads as reads
-use Rattle.spans.proofs.in_period.Lts as lts
-use Rattle.floats.proofs.floor.Reads as floor-reads
-use Rattle.spans.proofs.start_unless.Reads as start-unless-reads
 use Rattle.spans.proofs.in_period.Goals as goal
 
 pub returns : goal.returns

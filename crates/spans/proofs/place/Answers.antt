@@ -1,10 +1,5 @@
 -- `place` is its definition, one case a return. Assumes nothing.
 use Rattle.spans.proofs.Laws.{place_open, place_closed}
-use Rattle.spans.proofs.place.Reads as reads
-use Rattle.spans.proofs.place.Lts as lts
-use Rattle.spans.proofs.in_period.Reads as in-period-reads
-use Rattle.spans.proofs.start_unless.Reads as start-unless-reads
-use Rattle.spans.proofs.turn_span.Reads as turn-span-reads
 use Rattle.spans.proofs.place.Goals as goal
 
 pub returns-then-not-closed : goal.returns-then-not-closed

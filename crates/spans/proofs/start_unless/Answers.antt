@@ -1,8 +1,6 @@
 -- `start_unless`: each return is an arm of the definition. Assumes nothing.
 use mathlib.Core.Path.{refl}
 use Rattle.spans.specs.Spans.{start_unless}
-use Rattle.spans.proofs.start_unless.Reads as reads
-use Rattle.spans.proofs.start_unless.Lts as lts
 use Rattle.spans.proofs.start_unless.Goals as goal
 
 pub returns-then-x-b : goal.returns-then-x-b

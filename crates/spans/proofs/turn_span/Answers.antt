@@ -5,9 +5,6 @@ use native.Mathlib.Nat.{mod-lt}
 use native.Mathlib.Omega.{arith}
 use lib.ListN.{length}
 use Rattle.spans.specs.Spans.{turn_span}
-use Rattle.spans.proofs.turn_span.Reads as reads
-use Rattle.spans.proofs.turn_span.Lts as lts
-use Rattle.spans.proofs.span_end.Reads as span-end-reads
 use Rattle.spans.proofs.turn_span.Goals as goal
 
 pub returns : goal.returns

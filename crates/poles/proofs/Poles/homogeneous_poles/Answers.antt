@@ -1,11 +1,11 @@
 -- A turn fills one pole more, and the last leaves none to come. Assumes nothing.
-use mathlib.Core.Path.{refl, sym, ap, ◌∙◌}
+use mathlib.Core.Path.{refl, ap, ◌∙◌}
 use mathlib.Core.List.{◌∷◌, ◌++◌, append-nil}
 use Rattle.std.proofs.Common.{rules, ◌≡◌, ◌+◌, ◌*◌, ◌≤◌, ◌-◌, length, take, drop, ℕ}
 use native.Mathlib.Omega.{arith}
 use Rattle.lists.proofs.Loops.{fill4_turn}
 use Rattle.points.specs.declared.Point4D.{Point4D}
-use Rattle.poles.specs.Poles.{pole_count, homogeneous_of, homogeneous_poles}
+use Rattle.poles.specs.Poles.{homogeneous_of, homogeneous_poles}
 use Rattle.poles.proofs.Poles.homogeneous_poles.Goals as goal
 
 pub loop-i-preserved : goal.loop-i-preserved
