@@ -12,12 +12,12 @@ import fcntl
 import os
 import pathlib
 import resource
-import shutil
 import signal
 import subprocess
 import sys
 import tempfile
 
+import archive
 import compare
 import sheets
 
@@ -234,11 +234,7 @@ def run_unwritten(path):
 
 
 def main(args):
-    if not args:
-        if not shutil.which('rt'):
-            sys.exit(print('charts: no rt here, not run'))
-        subprocess.run(['rt', 'check', 'clearance'], cwd=ROOT, check=True, stdout=subprocess.DEVNULL)
-    path = args[0] if args else str(ROOT / 'target/bin/clearance')
+    path = args[0] if args else str(archive.program('charts'))
     seed, areas = (int(args[1]), int(args[2])) if len(args) == 3 else (1, 300)
     program = compare.Program(path, False, 106)
     wrong = run_known(program) + run(program, seed, areas)

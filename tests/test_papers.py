@@ -1,13 +1,13 @@
 """The papers and the repository agree: each crate stands in docs/ARCHITECTURE.md, each must-fail edit has its two lines and fits its file once,
 every name in docs/COVERAGE.md is there, and no paper names a package host."""
-import pathlib
 import re
 import sys
 
-ROOT = pathlib.Path(__file__).resolve().parent.parent
+from archive import ROOT, sources
+
 bad = []
 crates = [
-    line.split(":")[0].strip()
+    line.split(":")[0].split()[0]  # a word behind it says that it is a static library
     for line in (ROOT / "crates.txt").read_text().splitlines()
     if line.strip() and not line.startswith("#")
 ]
@@ -35,7 +35,7 @@ for edit in sorted(ROOT.glob("crates/*/must-fail/*.edit")):
             old, pairs = None, pairs + 1
     if not pairs or old is not None:
         bad.append(f"{edit}: wants a file, and an old and a new line")
-texts = "\n".join(p.read_text() for p in ROOT.glob("crates/**/*") if p.suffix in {".rt", ".antt"})
+texts = "\n".join(p.read_text() for p in sources() if p.suffix in {".rt", ".antt"})
 words = set(re.findall(r"[^\s(){},;.:`]+", texts)) | set(crates) | {p.stem for p in ROOT.glob("crates/*/must-fail/*.edit")}
 for name in re.findall(r"`([^`]+)`", (ROOT / "docs/COVERAGE.md").read_text()):
     head, _, rest = name.partition("/")
@@ -59,8 +59,8 @@ for name in ("nets", "nodes"):
     if re.search(r"\[[^\]\n]*;[^\]\n]*\]|scratch\(", (ROOT / f"crates/{name}/src/lib.rt").read_text()):
         bad.append(f"crates/{name}/src/lib.rt makes or takes an array")
 # the longest answer: its definition, the code's buffers and the header
-length = {n: int(v) for n, v in re.findall(r"^(countsLength|regionLength|lentRegions) = (\d+)$", texts, re.M)}
-longest = length["countsLength"] + length["lentRegions"] * length["regionLength"]
+length = {n: int(v) for n, v in re.findall(r"^(counts_length|region_length|lent_regions) = (\d+)$", texts, re.M)}
+longest = length["counts_length"] + length["lent_regions"] * length["region_length"]
 for file, form in (("include/lovgurshem.h", "#define LOVGURSHEM_ANSWER %d\n"), ("crates/clearance/src/main.rt", "[0u8; %d]"), ("crates/charts/src/lib.rt", "out.len() < %d "), ("examples/rust/main.rs", "[0u8; %d]")):
     if form % longest not in (ROOT / file).read_text():
         bad.append(f"{file} has not {longest} bytes for the longest answer")

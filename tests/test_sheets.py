@@ -1,16 +1,13 @@
 """The program answers the stored sheets as the Rust did, also one that comes in pieces, and says on standard error when its answer could not be written whole."""
 import pathlib
-import shutil
 import subprocess
 import sys
 import tempfile
 import time
 
-ROOT = pathlib.Path(__file__).resolve().parent.parent
-PROGRAM = ROOT / "target/bin/clearance"
-if not shutil.which("rt"):
-    sys.exit(print("sheets: no rt here, not run"))
-subprocess.run(["rt", "check", "clearance"], cwd=ROOT, check=True, stdout=subprocess.DEVNULL)
+from archive import ROOT, program
+
+PROGRAM = program("sheets")
 FULL = pathlib.Path("/dev/full")
 if FULL.exists():
     with FULL.open("wb") as full, (ROOT / "examples/example.sheet").open("rb") as sheet:
