@@ -4,8 +4,8 @@
   bench.py [--runs N] [--library ARCHIVE] [--program PROGRAM] RUST
 
 RUST is a release build of the Rust's sheet program that takes `--bench N`: it answers the sheet on standard input
-N times in one process; it gets each sheet in document 01's form, without data. ARCHIVE is the library as `rt staticlib lovgurshem` writes it, PROGRAM the sheet program as
-`rt check clearance` does; both defaults are below target/. docs/BENCHMARKS.md says how the Rust is built.
+N times in one process; it gets each sheet in document 01's form, without data. ARCHIVE is the library and PROGRAM the sheet program as
+`tools/build` makes them; both defaults are below target/. docs/BENCHMARKS.md says how the Rust is built.
 
 Each side answers the sheet, from its bytes to the printed text, as many times in one process as the Rust needs for
 about a third of a second, so that starting a process is below one percent. Both sides run in turn, N times each

@@ -1,7 +1,7 @@
 /*
  * Lovgurshem: the clearance search of two B-spline lines, for programs in C
  * and in languages that call C. Link with target/staticlib/liblovgurshem.a
- * (`rt staticlib lovgurshem`; 64-bit Linux on x86-64).
+ * (`tools/build lovgurshem`; 64-bit Linux on x86-64-v2).
  *
  * What this header says of answers and slices is proved: a function's answer
  * and the contents of every slice afterwards follow from what was handed in by

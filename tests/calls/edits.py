@@ -2,7 +2,7 @@
 """Each of these mistakes in tests/model/calls.c, or in clearance.c beside it, must show as a difference from the library: the random lists would
 find it there too.
 
-  edits.py [SEED LISTS]     needs a C compiler and target/staticlib/liblovgurshem.a
+  edits.py [SEED LISTS]     needs a C compiler and target/staticlib/liblovgurshem.a (tools/build lovgurshem)
 """
 import pathlib
 import subprocess
