@@ -1,4 +1,4 @@
-"""What tools/build makes, for the tests: the program, target/bin/clearance, and the library's archive, target/staticlib/liblovgurshem.a, which is built anew
+"""What tools/build makes, for the tests: the program, target/bin/clearance, and the library's archive, target/staticlib/liblovgurshem.a. Each is built anew
 where a file of a crate or crates.txt is newer."""
 import pathlib
 import shutil
@@ -18,24 +18,22 @@ def sources():
             yield from (p for p in [part, *part.glob("**/*")] if p.is_file())
 
 
-def build(test, *names):
-    """Has tools/build prove and build these; where it can't, shows what it said and ends the test. Where there is no rt, says so and ends the test."""
-    if not shutil.which("rt"):
-        sys.exit(print(f"{test}: no rt here, not run"))
-    built = subprocess.run([ROOT / "tools/build", *names], stdout=subprocess.PIPE, stderr=subprocess.STDOUT, text=True)
-    if built.returncode != 0:
-        sys.exit(f"{built.stdout}{test}: {' and '.join(names)} not built")
+def build(test, made, names):
+    """The path of what is made; where it isn't up to date, has tools/build prove and build these. Where there is no rt to do so, says so and ends the test."""
+    newest = max(p.stat().st_mtime for p in sources())
+    if not made.exists() or made.stat().st_mtime <= newest:
+        if not shutil.which("rt"):
+            sys.exit(print(f"{test}: no rt here, not run"))
+        built = subprocess.run([ROOT / "tools/build", *names], stdout=subprocess.PIPE, stderr=subprocess.STDOUT, text=True)
+        if built.returncode != 0:
+            sys.exit(f"{built.stdout}{test}: {' and '.join(names)} not built")
+    return made
 
 
 def program(test):
-    """The program's path."""
-    build(test, "clearance")
-    return PROGRAM
+    return build(test, PROGRAM, ["clearance"])
 
 
 def archive(test):
-    """The archive's path; where it is built anew, so is the program."""
-    newest = max(p.stat().st_mtime for p in sources())
-    if not ARCHIVE.exists() or ARCHIVE.stat().st_mtime <= newest:
-        build(test, "clearance", "lovgurshem")
-    return ARCHIVE
+    """The archive's path; the program is built with it."""
+    return build(test, ARCHIVE, ["clearance", "lovgurshem"])
