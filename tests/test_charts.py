@@ -223,7 +223,8 @@ def run_unwritten(path):
             f.seek(0)
             if got != (0, SAID if size < len(whole) else b'') or f.read().decode() != whole[:size]:
                 faults.append('a file of at most %d bytes' % size)
-    if pipe_left(path, data, 4096, False) != (-signal.SIGPIPE, b'', whole[:10].encode()):
+    # the kit has each program ignore the signal, so both are one case
+    if pipe_left(path, data, 4096, False) != (0, SAID, whole[:10].encode()):
         faults.append('a reader that has gone')
     if pipe_left(path, data, 4096, True) != (0, SAID, whole[:10].encode()):
         faults.append('a reader that has gone, the signal ignored')
