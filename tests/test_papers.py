@@ -36,7 +36,7 @@ for edit in sorted(ROOT.glob("crates/*/must-fail/*.edit")):
     if not pairs or old is not None:
         bad.append(f"{edit}: wants a file, and an old and a new line")
 texts = "\n".join(p.read_text() for p in sources() if p.suffix in {".rt", ".antt"})
-words = set(re.findall(r"[^\s(){},;.:`]+", texts)) | set(crates) | {p.stem for p in ROOT.glob("crates/*/must-fail/*.edit")}
+words = set(re.findall(r"[^\s(){}<>!&,;.:`]+", texts)) | set(crates) | {p.stem for p in ROOT.glob("crates/*/must-fail/*.edit")}
 for name in re.findall(r"`([^`]+)`", (ROOT / "docs/COVERAGE.md").read_text()):
     head, _, rest = name.partition("/")
     if head in crates and rest:
