@@ -135,7 +135,7 @@ module _ (lo hi : Float) (nl : Number lo) (nh : Number hi) where
       go false f g =
           elim (g refl) [
             | inl x ↦ first_outside (get_or ks i nan) lo (between lo hi ks (hi ∷ [])) x c
-            | inr y ↦ both_two {P = λ (t0 t1 : Float). T (le lo t0) × T (le t1 hi)} (λ t0 t1 p q. inr (le_trans_float t1 hi (get_or ks i nan) p.1 y)) (breaks_in lo hi ks)
+            | inr y ↦ both_two {P = λ (t0 t1 : Float). T (le lo t0) × T (le t1 hi)} {Q = λ (t0 t1 : Float). T (le lo t0) × T (le t1 hi)} {R = Outside (get_or ks i nan)} (λ t0 t1 p q. inr (le_trans_float t1 hi (get_or ks i nan) p.1 y)) (breaks_in lo hi ks)
                 (in_range lo ks (le_self lo nl)) (in_range lo ks (le_self lo nl))
           ]
 

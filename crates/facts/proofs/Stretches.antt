@@ -123,7 +123,7 @@ pub of_breaks_lem : (lo hi : Float) (knots : List Float) → T (lt lo hi) → ((
     → {R : Float → Float → Type 0}
     → ((t0 t1 : Float) → T (le lo t0) → T (le t1 hi) → T (lt t0 (middle t0 t1)) → T (lt (middle t0 t1) t1) → ((i : ℕ) → i < length knots → Outside (get_or knots i nan) t0 t1) → R t0 t1)
     → AllTwo R (breaks_in lo hi knots)
-of_breaks_lem lo hi knots less n e {R} f = both_two each b (in_range lo hi nl nh lo knots (le_self lo nl)) (both_two (λ t0 t1 p q. (p, q)) b (passed-two parted b e) outside)
+of_breaks_lem lo hi knots less n e {R} f = both_two each b (in_range lo hi nl nh lo knots (le_self lo nl)) told
   where
     nl : Number lo
     nl = left_number lo hi (lt_le lo hi less)
@@ -136,6 +136,13 @@ of_breaks_lem lo hi knots less n e {R} f = both_two each b (in_range lo hi nl nh
 
     outside : AllTwo (λ t0 t1. (i : ℕ) → i < length knots → Outside (get_or knots i nan) t0 t1) b
     outside = for_all (λ i. Outside (get_or knots i nan)) (length knots) b (λ i h. none_between lo hi nl nh knots e i h (n i h))
+
+    with_outside : (t0 t1 : Float) → T (parted t0 t1) → ((i : ℕ) → i < length knots → Outside (get_or knots i nan) t0 t1)
+        → T (parted t0 t1) × ((i : ℕ) → i < length knots → Outside (get_or knots i nan) t0 t1)
+    with_outside t0 t1 p q = (p, q)
+
+    told : AllTwo (λ t0 t1. T (parted t0 t1) × ((i : ℕ) → i < length knots → Outside (get_or knots i nan) t0 t1)) b
+    told = both_two with_outside b (passed-two parted b e) outside
 
     each : (t0 t1 : Float) → T (le lo t0) × T (le t1 hi) → T (parted t0 t1) × ((i : ℕ) → i < length knots → Outside (get_or knots i nan) t0 t1) → R t0 t1
     each t0 t1 r q = let m = middle-between t0 t1 q.0 in f t0 t1 r.0 r.1 m.0 m.1 q.1
