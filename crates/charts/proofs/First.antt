@@ -235,11 +235,11 @@ module _ (c : Chart) where
   each_one f (l ∷ ls) k = ap (λ (r : List Tested). f l k ∷ r) (each_one f ls (suc k))
 
   -- two tests a line, with one place, are a row of the first of them that is met
-  each_two : (f g : ChartLine → ℕ) (ls : List ChartLine) (k : ℕ)
+  each_two_lem : (f g : ChartLine → ℕ) (ls : List ChartLine) (k : ℕ)
       → first_met (each_line (λ l k. tested (f l) k ∷ tested (g l) k ∷ []) ls k) ≡ first_met (row (λ l k. tested (either (f l) (g l)) k) ls k)
   unfolding either
-  each_two f g [] k = refl
-  each_two f g (l ∷ ls) k = go (each_two f g ls (suc k)) (eqb (f l) 0) refl
+  each_two_lem f g [] k = refl
+  each_two_lem f g (l ∷ ls) k = go (each_two_lem f g ls (suc k)) (eqb (f l) 0) refl
     where
       go : first_met (each_line (λ l k. tested (f l) k ∷ tested (g l) k ∷ []) ls (suc k)) ≡ first_met (row (λ l k. tested (either (f l) (g l)) k) ls (suc k))
           → (b : Bool) → eqb (f l) 0 ≡ b
@@ -267,7 +267,7 @@ module _ (c : Chart) where
       let m = l ∷ ls in
       let alike : (t : Tested) → Alike (t ∷ []) (row (λ l k. t) m 2) = λ t. record { same = sym (same_row t l ls 2) } in
       let one : (f : ChartLine → ℕ → Tested) → Alike (each_line (λ l k. f l k ∷ []) m 2) (row f m 2) = λ f. record { same = ap first_met (each_one f m 2) } in
-      let two : Alike (each_line (λ l k. tested (line_number l) k ∷ tested (datum_number c l) k ∷ []) m 2) (row (λ l k. tested (either (line_number l) (datum_number c l)) k) m 2) = record { same = each_two line_number (datum_number c) m 2 } in
+      let two : Alike (each_line (λ l k. tested (line_number l) k ∷ tested (datum_number c l) k ∷ []) m 2) (row (λ l k. tested (either (line_number l) (datum_number c l)) k) m 2) = record { same = each_two_lem line_number (datum_number c) m 2 } in
       let last : Alike (each_line (λ l k. tested (room_number c l) 0 ∷ []) m 2) (row (λ l k. tested (room_number c l) 0) m 2 ++ [])
       = record { same = (one (λ l k. tested (room_number c l) 0)).same ∙ ap first_met (sym (append-nil (row (λ l k. tested (room_number c l) 0) m 2))) } in
       both (alike (tested (line_number c.track) 1))

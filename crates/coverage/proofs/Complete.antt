@@ -341,6 +341,7 @@ one_report q full o r =
     )
 
 none_of : {A : Type 0} (P : A → Type 0) (l : List A) → All (λ (e : A). P e → ⊥) l → Any P l → ⊥
+none_of {A = A} P [] h y = elim y [ ]
 none_of P (x ∷ l) h (inl y) = h.0 y
 none_of P (x ∷ l) h (inr y) = none_of P l h.1 y
 
