@@ -111,6 +111,7 @@ pub walk_number : (n : ℕ) → OneOf (1 ∷ 2 ∷ 3 ∷ []) n → OneOf (1 ∷ 
 walk_number n (inl e) = inl e
 walk_number n (inr (inl e)) = inr (inl e)
 walk_number n (inr (inr (inl e))) = inr (inr (inl e))
+walk_number n (inr (inr (inr e))) = elim e [ ]
 
 abbrev pub line_numbers : List ℕ
 line_numbers = 4 ∷ 5 ∷ 6 ∷ 7 ∷ 22 ∷ 8 ∷ 9 ∷ 10 ∷ 11 ∷ 12 ∷ 13 ∷ 14 ∷ 15 ∷ 18 ∷ []
@@ -137,6 +138,7 @@ snd_of m n e = sym (ap (λ (p : ℕ × ℕ). p.1) e)
 
 -- ---- numbers above 0
 positive : (l : List ℕ) (n : ℕ) → All (λ (k : ℕ). 0 < k) l → OneOf l n → 0 < n
+positive [] n a e = elim e [ ]
 positive (k ∷ l) n a (inl e) = subst (λ (x : ℕ). 0 < x) (sym e) a.0
 positive (k ∷ l) n a (inr h) = positive l n a.1 h
 
