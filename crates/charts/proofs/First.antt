@@ -2,7 +2,7 @@
 use mathlib.Core.Path.{◌≡◌, refl, sym, ap, ◌∙◌}
 use mathlib.Core.Bool.{Bool, true, false, not, ◌&&◌, cond, false≢true}
 use mathlib.Core.List.{List, [], ◌∷◌, ◌++◌, map, append-nil}
-use Prim.Native.Nat.{ℕ, zero, suc, ◌≤◌}
+use Prim.Native.Nat.{ℕ, suc, ◌≤◌}
 use native.Mathlib.Omega.{arith}
 use borrow.Author.Tests.{ne_eqb}
 use lib.Dec.{ltb, leb, eqb, lit≤}
@@ -26,9 +26,9 @@ use Rattle.opening.specs.Asked.{start, state_of, open_memory}
 use Rattle.opening.specs.Opens.{search_for, is_admitted, is_fine, opened_number, opened_line, pieces_fit, pieces_in, Pushing, pushing, Opening, opening}
 use Rattle.walks.specs.Sheets.{ChartLine, Chart}
 use Rattle.sheet.specs.Answers.{zeros, lent, opened_on}
-use Rattle.charts.specs.Charts.{Tested, tested, first_met, pair_for, count_number, line_number, datum_number, range_number, gap_number, splits_number, breaks_number, room_number, Row, of_count, of_line, of_datum, of_range, of_gap, of_splits, of_breaks, of_room, each_line as each_row, order, test_of, tests}
+use Rattle.charts.specs.Charts.{Tested, tested, first_met, pair_for, count_number, line_number, datum_number, range_number, gap_number, splits_number, breaks_number, room_number, Row, of_count, of_line, of_datum, of_range, of_gap, of_splits, of_breaks, of_room, each_line as each_row, test_of, tests}
 use Rattle.charts.specs.Found.{place_of, opened_at, rank_of, earlier_of, lines_met, chart_met}
-use Rattle.charts.proofs.Rows.{met, first_append, passed, Found, found, sooner, row, rows, column, in_line, soonest, rows_soonest}
+use Rattle.charts.proofs.Rows.{met, first_append, passed, Found, sooner, row, rows, column, in_line, soonest, rows_soonest}
 
 -- ---- the opening of a pair, by its tests
 module _ (q : Question) where

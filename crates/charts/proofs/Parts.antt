@@ -5,7 +5,7 @@ use mathlib.Core.List.{List, [], ◌∷◌}
 use Prim.Native.Nat.{ℕ, zero, suc, ◌+◌, ◌%◌, ◌≤◌, ◌<◌}
 use native.Mathlib.Omega.{arith}
 use borrow.Author.Tests.{ltb-false, lt-ltb, le-ltb, le-leb, lt-leb, eq-eqb, ne_eqb}
-use lib.Dec.{T, ltb, leb, eqb}
+use lib.Dec.{T, ltb, eqb}
 use lib.ListN.{length, drop}
 use lib.Ieee.{Float}
 use Rattle.lines.specs.Lines.{Question}
@@ -13,7 +13,7 @@ use Rattle.opening.specs.declared.Question.{Question as Asking}
 use Rattle.opening.specs.Opens.{question_of}
 use Rattle.walks.specs.declared.Sheet.{Sheet}
 use Rattle.walks.specs.Words.{float_at}
-use Rattle.walks.specs.Sheets.{ChartLine, Chart, Walked, walked, charted, refused_as, bad_length, pair_of, walk_of}
+use Rattle.walks.specs.Sheets.{ChartLine, Walked, walked, charted, refused_as, bad_length, pair_of, walk_of}
 use Rattle.walks.specs.Places.{unless, line_in, question_in, chart_in, sheet_in}
 use Rattle.walks.proofs.Walks.{on, off}
 use Rattle.printing.specs.Printed.{refusal_line}

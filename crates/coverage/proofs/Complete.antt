@@ -6,7 +6,7 @@ use mathlib.Core.Bool.{Bool, true, false, ◌&&◌, cond, false≢true}
 use Prim.Native.Nat.{ℕ, zero, suc, ◌+◌, ◌*◌, ◌≤◌, ◌<◌, min}
 use borrow.Author.Tests.{le-leb}
 use native.Mathlib.Omega.{arith}
-use lib.Dec.{T, leb}
+use lib.Dec.{T}
 use lib.ListN.{take, length}
 use lib.Ieee.{Float}
 use Rattle.lists.specs.Members.{Any, All}
@@ -45,7 +45,7 @@ use Rattle.stretches.specs.Stretches.{near_at}
 use Rattle.stretches.proofs.Marked.{region_marks}
 use Rattle.opening.specs.Asked.{Asked, shape, pieces1, pieces2, start, state_of, result_of, raw_list, net_of1, net_of2, open_memory, records_for}
 use Rattle.opening.specs.Opens.{search_for}
-use Rattle.coverage.specs.Calls.{Call, step, own as own_call, Answer, stepped, reported, Outcome, step_outcome, report_outcome}
+use Rattle.coverage.specs.Calls.{step, own as own_call, Answer, stepped, reported, Outcome, step_outcome, report_outcome}
 use Rattle.coverage.specs.Rules.{Ruled, lent, suffices, suffices_own, step_rule, own_rule, after_own, rule_all}
 use Rattle.coverage.specs.Claim.{Fine, GoodReport}
 use Rattle.facts.proofs.Reflect.{as_true}

@@ -6,7 +6,7 @@ use Prim.Native.Nat.{ℕ, zero, suc, ◌+◌}
 use borrow.Author.Tests.{not-false}
 use lib.Dec.{T, ltb, eqb}
 use lib.ListN.{length}
-use lib.Ieee.{Float, binary64, fits, of_bits}
+use lib.Ieee.{Float, binary64, fits}
 use lib.Ieee.Bits.{of_bits-fits}
 use Rattle.lists.specs.Members.{All}
 use Rattle.lists.specs.Tests.{each_two}
@@ -21,7 +21,7 @@ use Rattle.facts.specs.Spans.{Doubles}
 use Rattle.facts.proofs.Facts.{line_table, question_table, pieces_in_spans}
 use Rattle.opening.specs.Opens.{is_fine}
 use Rattle.walks.specs.Words.{word_at, kind_of, count_of, float_at, floats_from}
-use Rattle.walks.specs.Sheets.{ChartLine, Chart, Walked, walked, charted, refused_as, bad_length, bad_count, size_of, part_of, word_stands, weights_of, line_kind, line_after, line_stands, range_after, lines_after, closing, pair_of, chart_of, walk_of}
+use Rattle.walks.specs.Sheets.{ChartLine, Walked, walked, charted, refused_as, bad_length, bad_count, size_of, part_of, word_stands, weights_of, line_kind, line_after, line_stands, range_after, lines_after, closing, pair_of, chart_of, walk_of}
 use Rattle.charts.specs.Charts.{pair_for}
 use Rattle.whole.specs.Refusals.{Faultless}
 use Rattle.whole.specs.Pieces.{PairPieces, SheetPieces, ChartPieces}

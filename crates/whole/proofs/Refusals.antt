@@ -15,7 +15,7 @@ use Rattle.opening.specs.Opens.{is_admitted, is_fine, pieces_fit, open_def}
 use Rattle.walks.specs.Sheets.{Chart, Walked, walked, charted, refused_as, walk_of}
 use Rattle.printing.specs.Printed.{refusal_line}
 use Rattle.sheet.specs.Answers.{zeros, lent}
-use Rattle.charts.specs.Charts.{Tested, tested, order, rest_text, tested_text, chart_text}
+use Rattle.charts.specs.Charts.{Tested, order, rest_text, tested_text, chart_text}
 use Rattle.charts.specs.Answers.{walked_text, answer_of}
 use Rattle.whole.specs.Refusals.{Numbered, Short, Faultless, FirstOf, Fault, in_sheet, in_first, in_second, in_data, in_question, in_memory, in_chart, FaultPrinted}
 use Rattle.whole.proofs.Tests.{x, Few, few_walk, walk_number, line_number_lem, fst_of, snd_of, not_zero, good_admitted, admitted_good, fault_refused, refused_fault, data_test, good_one, one_good, fault_off, off_fault, good_fine, fine_good, fault_asked, asked_fault, tested_as, said}

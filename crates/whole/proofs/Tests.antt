@@ -26,11 +26,11 @@ use Rattle.opening.specs.Asked.{start, state_of}
 use Rattle.opening.specs.Opens.{search_for, is_admitted, is_fine, pieces_fit, open_def}
 use Rattle.opening.proofs.Laws.{is_admitted_lem}
 use Rattle.walks.specs.Words.{word_at, kind_of, count_of}
-use Rattle.walks.specs.Sheets.{ChartLine, Chart, Walked, walked, charted, refused_as, bad_length, bad_count, size_of, part_of, word_stands, weights_of, line_kind, line_after, line_stands, range_after, lines_after, closing, walk_of}
+use Rattle.walks.specs.Sheets.{ChartLine, Walked, walked, charted, refused_as, bad_length, bad_count, size_of, part_of, word_stands, weights_of, line_kind, line_after, line_stands, range_after, lines_after, closing, walk_of}
 use Rattle.sheet.specs.Answers.{zeros, lent, opened_text, lines_text, opened_on, lent_output}
 use Rattle.charts.specs.Answers.{walked_text, answer_of}
 use Rattle.charts.proofs.First.{opened_by_lem}
-use Rattle.whole.specs.Refusals.{OneOf, DatumFault, GoodLine, GoodData, GoodQuestion, Fault}
+use Rattle.whole.specs.Refusals.{OneOf, DatumFault, GoodLine, GoodData, GoodQuestion}
 
 -- ---- the walk refuses with 1, 2 or 3
 abbrev pub Few : Walked → Type 0

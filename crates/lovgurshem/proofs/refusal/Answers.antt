@@ -5,4 +5,4 @@ use Rattle.lovgurshem.specs.Answers.{open_answer}
 use Rattle.lovgurshem.proofs.refusal.Goals as goal
 
 pub returns : goal.returns
-returns c = c.open_number.ensures ∙ ap (λ (o : Opening). open_answer o.answer) c.«open».ensures
+returns c = c.open_number.ensures ∙ ap (λ (o : Opening). open_answer o.answer) c.open-o.ensures
