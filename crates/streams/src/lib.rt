@@ -42,3 +42,75 @@ pub fn print_decimal<W: Write>(to: &mut W, n: u64) -> Result<()>
 {
     write!(to, "{n}")
 }
+
+#[cfg(test)]
+mod tests {
+    use super::*;
+
+    // An input that comes a byte at a time, 1 and 3, with a signal between them; then it ends, or fails.
+    #[derive(Drop)]
+    struct Pieces {
+        turn: u8,
+        fails: bool,
+    }
+
+    impl Read for Pieces {
+        fn read(&mut self, buf: &mut [u8]) -> Result<usize> {
+            self.turn = self.turn.saturating_add(1);
+            if self.turn == 2 {
+                return Err(Error::new(ErrorKind::Interrupted, "a signal"));
+            }
+            if self.turn > 3 && self.fails {
+                return Err(Error::other("a fault"));
+            }
+            if self.turn > 3 || buf.is_empty() {
+                return Ok(0);
+            }
+            buf[0] = self.turn;
+            Ok(1)
+        }
+    }
+
+    #[test]
+    fn reads_in_pieces(rt: HostRuntime) -> Result<()> {
+        for (room, want) in [(0, 0), (1, 1), (2, 2), (5, 2)] {
+            let mut from = Pieces {
+                turn: 0,
+                fails: false,
+            };
+            let mut buf = [9u8; 5];
+            let n = read_full(&mut from, &mut buf[..room])?;
+            assert_eq!(rt; n, want, "with room for {room}");
+            for i in 0..5usize {
+                let byte = if i < n { 1 + 2 * (i as u8) } else { 9 };
+                assert_eq!(rt; buf[i], byte, "with room for {room}, at {i}");
+            }
+        }
+        Ok(())
+    }
+
+    #[test]
+    fn tells_a_fault(rt: HostRuntime) {
+        let mut from = Pieces {
+            turn: 0,
+            fails: true,
+        };
+        let mut buf = [0u8; 5];
+        let kind = match read_full(&mut from, &mut buf) {
+            Ok(_) => None,
+            Err(e) => Some(e.kind()),
+        };
+        assert!(rt; kind == Some(ErrorKind::Other));
+    }
+
+    #[test]
+    fn prints_decimals(rt: HostRuntime) -> Result<()> {
+        let mut text = Vec::new(rt.alloc());
+        for n in [0, 7, 10, 4096, u64::MAX] {
+            print_decimal(&mut text, n)?;
+            text.push(b' ')?;
+        }
+        assert!(rt; text.as_slice() == b"0 7 10 4096 18446744073709551615 ".as_slice());
+        Ok(())
+    }
+}
