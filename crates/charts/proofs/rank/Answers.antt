@@ -1,4 +1,4 @@
--- `rank` is rankOf, one return an arm. Assumes nothing.
+-- `rank` is rank_of, one return an arm. Assumes nothing.
 use Rattle.charts.proofs.Laws.{rank_none, rank_room, rank_splits, rank_gap, rank_breaks, rank_range, rank_line, at_track, at-line}
 use Rattle.charts.proofs.rank.Goals as goal
 

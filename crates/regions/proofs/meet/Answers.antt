@@ -1,4 +1,4 @@
--- `meet` is meetOf: one case a return. Assumes nothing.
+-- `meet` is meet_of: one case a return. Assumes nothing.
 use Rattle.regions.proofs.meet.Goals as goal
 
 pub returns-then-a0-b1 : goal.returns-then-a0-b1

@@ -1,4 +1,4 @@
--- `word_of` is wordFor: one case a return. Assumes nothing.
+-- `word_of` is word_for: one case a return. Assumes nothing.
 use Rattle.regions.proofs.Reports.{word-left, word_given, word_none}
 use Rattle.regions.proofs.word_of.Goals as goal
 

@@ -1,4 +1,4 @@
--- `top_node` is topOf: one test a return. Assumes nothing.
+-- `top_node` is top_of: one test a return. Assumes nothing.
 use mathlib.Core.Path.{sym, ap, ◌∙◌}
 use borrow.Author.Tests.{not-true, not-false}
 use Rattle.states.specs.States.{search_with}
