@@ -7,12 +7,12 @@ use Rattle.charts.proofs.chart_report.Goals as goal
 
 pub line_answer-p-requires : goal.line_answer-p-requires
 line_answer-p-requires c = let start = c in (
-      start.requires.0,
-      start.requires.1,
-      start.requires.2.first,
-      subst (ChartLineInside start.args.s.now) (sym c.line_place-at.ensures) (inside-at start.args.s.now start.args.k start.args.w.lines start.args.w.first.next start.requires.3 start.requires.2.lines),
-      start.requires.2.asked,
-    )
+  start.requires.0,
+  start.requires.1,
+  start.requires.2.first,
+  subst (ChartLineInside start.args.s.now) (sym c.line_place-at.ensures) (inside-at start.args.s.now start.args.k start.args.w.lines start.args.w.first.next start.requires.3 start.requires.2.lines),
+  start.requires.2.asked,
+)
 
 pub returns-then-good : goal.returns-then-good
 returns-then-good c = let start = c in

@@ -7,7 +7,7 @@ use Rattle.charts.proofs.Lines.{behind_met}
 use Rattle.charts.proofs.lines_met.Given as goal
 
 abbrev pub invariant-loop-k : goal.invariant-loop-k
-invariant-loop-k l = 
+invariant-loop-k l =
     (l.out ≡ l.initial.out) × (1 ≤ l.k) × (l.k ≤ l.w.lines) × (earlier_of (tested_of l.met) (behind_met l.s l.w l.k l.at) ≡ lines_met (chart_in l.s l.w) (lines_at l.s l.w.lines l.w.first.next) 2)
     × LinesInside l.s (suc (l.w.lines - l.k)) l.at
 

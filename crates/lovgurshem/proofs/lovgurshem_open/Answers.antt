@@ -27,5 +27,8 @@ returns c = let b = c in
     (line_of (is_closed args.closed2) args.degree2 args.knots2.now args.mults2.now args.coords2.now args.weights2.now)
     in
     let u = memory args.nets1.now args.nets2.now args.ranges.now args.depths.now args.raw.now in
-    let put = c.put_opened.ensures in record { fact = open_is q args.pieces1.now args.pieces2.now u args.state.now (le-leb _ _ b.if-state-lt23.false) b.open-o.ensures put.value.0
-          put.value.1; state_after = open_zero q args.pieces1.now args.pieces2.now u c.put_opened.new.w b.open-o.ensures put.value.0 put.opened_state }
+    let put = c.put_opened.ensures in record {
+      fact = open_is q args.pieces1.now args.pieces2.now u args.state.now (le-leb _ _ b.if-state-lt23.false) b.open-o.ensures put.value.0
+          put.value.1;
+      state_after = open_zero q args.pieces1.now args.pieces2.now u c.put_opened.new.w b.open-o.ensures put.value.0 put.opened_state;
+    }

@@ -7,8 +7,11 @@ use Rattle.lovgurshem.proofs.Laws.{run_none, run_is, stays}
 use Rattle.lovgurshem.proofs.lovgurshem_run.Goals as goal
 
 pub returns-then-not-is_state : goal.returns-then-not-is_state
-returns-then-not-is_state c = let args = c.args in record { fact = run_none args.state.now (memory args.nets1.now args.nets2.now args.ranges.now args.depths.now args.raw.now)
-          (sym c.is_state.ensures ∙ not-true _ c.if-not-is_state.true-raw); state_unchanged = refl }
+returns-then-not-is_state c = let args = c.args in record {
+  fact = run_none args.state.now (memory args.nets1.now args.nets2.now args.ranges.now args.depths.now args.raw.now)
+      (sym c.is_state.ensures ∙ not-true _ c.if-not-is_state.true-raw);
+  state_unchanged = refl;
+}
 
 pub read_state-requires : goal.read_state-requires
 read_state-requires c = within c.args.state.now
@@ -23,8 +26,11 @@ pub returns : goal.returns
 returns c = let b =
     c
     in
-    let args = b.args in record { fact = run_is args.state.now (memory args.nets1.now args.nets2.now args.ranges.now args.depths.now args.raw.now)
+    let args = b.args in record {
+      fact = run_is args.state.now (memory args.nets1.now args.nets2.now args.ranges.now args.depths.now args.raw.now)
           (sym b.is_state.ensures ∙ not-false _ b.if-not-is_state.false-raw) b.read_state.ensures
           c.run-s.ensures
-          c.put_next.ensures.value.0 c.put_next.ensures.value.1; state_unchanged = stays _ (sym b.is_state.ensures ∙ not-false _ b.if-not-is_state.false-raw)
-          c.put_next.ensures.w_after }
+          c.put_next.ensures.value.0 c.put_next.ensures.value.1;
+      state_unchanged = stays _ (sym b.is_state.ensures ∙ not-false _ b.if-not-is_state.false-raw)
+          c.put_next.ensures.w_after;
+    }

@@ -21,9 +21,9 @@ returns c = let args = c.args in
     let t2 = breaks_in args.q.lo2 args.q.hi2 (unrolled_of args.closed2 args.knots2.now) in
     record {
       fact = (counted_as args.q.gap args.pieces1.now t1 args.boxes1.now _ args.pieces2.now t2 args.boxes2.now _ _
-    (ap (λ (n : ℕ). n + 1) c.count-w1.ensures) (ap (λ (n : ℕ). n + 1) c.count-w2.ensures) c.piece_count-n1.ensures.0 c.piece_count-n2.ensures.0
-    ((E.upper_bound.0 t1 t2, E.upper_bound.1), (E.boxes1_after.0, E.boxes1_after.1, E.holds_boxes.0, E.holds_boxes.1))).0;
+          (ap (λ (n : ℕ). n + 1) c.count-w1.ensures) (ap (λ (n : ℕ). n + 1) c.count-w2.ensures) c.piece_count-n1.ensures.0 c.piece_count-n2.ensures.0
+          ((E.upper_bound.0 t1 t2, E.upper_bound.1), (E.boxes1_after.0, E.boxes1_after.1, E.holds_boxes.0, E.holds_boxes.1))).0;
       fact_2 = (counted_as args.q.gap args.pieces1.now t1 args.boxes1.now _ args.pieces2.now t2 args.boxes2.now _ _
-    (ap (λ (n : ℕ). n + 1) c.count-w1.ensures) (ap (λ (n : ℕ). n + 1) c.count-w2.ensures) c.piece_count-n1.ensures.0 c.piece_count-n2.ensures.0
-    ((E.upper_bound.0 t1 t2, E.upper_bound.1), (E.boxes1_after.0, E.boxes1_after.1, E.holds_boxes.0, E.holds_boxes.1))).1;
+          (ap (λ (n : ℕ). n + 1) c.count-w1.ensures) (ap (λ (n : ℕ). n + 1) c.count-w2.ensures) c.piece_count-n1.ensures.0 c.piece_count-n2.ensures.0
+          ((E.upper_bound.0 t1 t2, E.upper_bound.1), (E.boxes1_after.0, E.boxes1_after.1, E.holds_boxes.0, E.holds_boxes.1))).1;
     }

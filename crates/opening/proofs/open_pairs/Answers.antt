@@ -40,13 +40,18 @@ push-requires c = let args = c.args in
     let w1 = ap (λ (n : ℕ). n + 1) c.count-w1.ensures in
     let w2 = ap (λ (n : ℕ). n + 1) c.count-w2.ensures in
     let n1 = ap (λ (n : ℕ). n - 1) breaks.ensures.0 in
-    let n2 = ap (λ (n : ℕ). n - 1) breaks2.ensures.0 in record { n_bound = (pre.degree1_bound.3, omega (arith, c.count-w1.ensures, pre.degree1_bound.0), omega (arith, c.count-w2.ensures, pre.degree1_bound.1), pre.degree1_bound.2); n_value = pre.fact.0
-            ∙ sym (λ i. length (pairs_from args.q.gap (pieces (w1 i) args.pieces1.now (breaks.ensures.2 i)) (pieces (w2 i) args.pieces2.now (breaks2.ensures.2 i)) (n2 i) (n1 i) 0)); holds_boxes = (holds_as args.pieces1.now args.boxes1.now w1 n1 pre.fact.1, holds_as args.pieces2.now args.boxes2.now w2 n2 pre.fact.2); has_pieces = (
-            has_pieces_lem breaks.result _ args.degree1 args.pieces1.now breaks.new.out B1 breaks.ensures.0 breaks.ensures.2 breaks.ensures.3 w1
-                pre.degree1_in_bounds.0,
-            has_pieces_lem breaks2.result _ args.degree2 args.pieces2.now breaks2.new.out B2 breaks2.ensures.0 breaks2.ensures.2 breaks2.ensures.3 w2
-                pre.degree1_in_bounds.1,
-          ) }
+    let n2 = ap (λ (n : ℕ). n - 1) breaks2.ensures.0 in record {
+      n_bound = (pre.degree1_bound.3, omega (arith, c.count-w1.ensures, pre.degree1_bound.0), omega (arith, c.count-w2.ensures, pre.degree1_bound.1), pre.degree1_bound.2);
+      n_value = pre.fact.0
+          ∙ sym (λ i. length (pairs_from args.q.gap (pieces (w1 i) args.pieces1.now (breaks.ensures.2 i)) (pieces (w2 i) args.pieces2.now (breaks2.ensures.2 i)) (n2 i) (n1 i) 0));
+      holds_boxes = (holds_as args.pieces1.now args.boxes1.now w1 n1 pre.fact.1, holds_as args.pieces2.now args.boxes2.now w2 n2 pre.fact.2);
+      has_pieces = (
+        has_pieces_lem breaks.result _ args.degree1 args.pieces1.now breaks.new.out B1 breaks.ensures.0 breaks.ensures.2 breaks.ensures.3 w1
+            pre.degree1_in_bounds.0,
+        has_pieces_lem breaks2.result _ args.degree2 args.pieces2.now breaks2.new.out B2 breaks2.ensures.0 breaks2.ensures.2 breaks2.ensures.3 w2
+            pre.degree1_in_bounds.1,
+      );
+    }
 
 pub returns : goal.returns
 returns c = let args = c.args in

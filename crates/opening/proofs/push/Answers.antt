@@ -21,12 +21,16 @@ returns-then-not-has_room c = let args = c.args in
 
 pub push_pairs-requires : goal.push_pairs-requires
 push_pairs-requires c = let args = c.args in
-    let pre = c.requires in record { holds_boxes = pre.holds_boxes; has_pieces = pre.has_pieces; fact = subst (λ (k : ℕ). Room (pieces args.w1 args.pieces1.now args.breaks1.now)
-            (pieces args.w2 args.pieces2.now args.breaks2.now) k
-            (nodes args.nets1.now args.nets2.now args.ranges.now args.depths.now))
-            pre.n_value
-            (push_room _ _ _ _ _ _ _ (sizes (memory args.nets1.now args.nets2.now args.ranges.now args.depths.now args.raw.now))
-            c.fresh-st.ensures (sym c.has_room.ensures ∙ not-false _ c.if-not-has_room.false-raw)) }
+    let pre = c.requires in record {
+      holds_boxes = pre.holds_boxes;
+      has_pieces = pre.has_pieces;
+      fact = subst (λ (k : ℕ). Room (pieces args.w1 args.pieces1.now args.breaks1.now)
+          (pieces args.w2 args.pieces2.now args.breaks2.now) k
+          (nodes args.nets1.now args.nets2.now args.ranges.now args.depths.now))
+          pre.n_value
+          (push_room _ _ _ _ _ _ _ (sizes (memory args.nets1.now args.nets2.now args.ranges.now args.depths.now args.raw.now))
+          c.fresh-st.ensures (sym c.has_room.ensures ∙ not-false _ c.if-not-has_room.false-raw));
+    }
 
 pub returns : goal.returns
 returns c = let args = c.args in

@@ -17,8 +17,11 @@ returns-then-is_neither c = let n = c in
     let pre = n.requires in
     let R = pre.room in
     let u = memory args.nets1.now args.nets2.now args.ranges.now args.depths.now args.raw.now in
-    let v = ap (λ (v : Verdict). act_on geometry (suc args.k) v args.st u) (sym n.in-Split.is) in record { fact = too_deep_is args.st u args.k args.depth args.a args.b pre.a_value.0 pre.a_value.1 _ pre.a_value.2 n.choose-choice.ensures _
-          (sym n.is_neither.ensures ∙ c.if-is_neither.true) c.give_up-then-is_neither.ensures ∙ v; may_move = (omega (arith, R.closed, R.top), R.steps) }
+    let v = ap (λ (v : Verdict). act_on geometry (suc args.k) v args.st u) (sym n.in-Split.is) in record {
+      fact = too_deep_is args.st u args.k args.depth args.a args.b pre.a_value.0 pre.a_value.1 _ pre.a_value.2 n.choose-choice.ensures _
+          (sym n.is_neither.ensures ∙ c.if-is_neither.true) c.give_up-then-is_neither.ensures ∙ v;
+      may_move = (omega (arith, R.closed, R.top), R.steps);
+    }
 
 pub returns-then-st-eq0 : goal.returns-then-st-eq0
 returns-then-st-eq0 c = let n = c in
@@ -26,8 +29,11 @@ returns-then-st-eq0 c = let n = c in
     let pre = n.requires in
     let R = pre.room in
     let u = memory args.nets1.now args.nets2.now args.ranges.now args.depths.now args.raw.now in
-    let v = ap (λ (v : Verdict). act_on geometry (suc args.k) v args.st u) (sym n.in-Split.is) in record { fact = stopped_is args.st u args.k args.depth args.a args.b pre.a_value.0 pre.a_value.1 _ pre.a_value.2 n.choose-choice.ensures
-          (sym n.is_neither.ensures ∙ c.if-is_neither.false) c.if-st-eq0.true ∙ v; may_move = (c.if-st-eq0.true, R.steps) }
+    let v = ap (λ (v : Verdict). act_on geometry (suc args.k) v args.st u) (sym n.in-Split.is) in record {
+      fact = stopped_is args.st u args.k args.depth args.a args.b pre.a_value.0 pre.a_value.1 _ pre.a_value.2 n.choose-choice.ensures
+          (sym n.is_neither.ensures ∙ c.if-is_neither.false) c.if-st-eq0.true ∙ v;
+      may_move = (c.if-st-eq0.true, R.steps);
+    }
 
 pub halve-requires : goal.halve-requires
 halve-requires c = let n = c in
@@ -65,5 +71,8 @@ returns-else-st-eq0 c = let b = c in
     let below = chosen_below (second_halved args.a args.b) args.depth _ n.choose-choice.ensures R.first R.second line in
     let some = b.if-st-eq0.false in
     let one : 1 ≤ args.st.tally.unspent = search rules in
-    let h = c.halve.ensures in record { fact = halved_is args.st u args.k args.depth args.a args.b pre.a_value.0 pre.a_value.1 _ pre.a_value.2 n.choose-choice.ensures _ _ _ _ _ line
-          c.is_second.ensures one R.nets1 R.nets2 h.0 h.1 h.2 h.3 ∙ v; may_move = (one, omega (arith, R.spent, one), R.steps, (R.above below).few) }
+    let h = c.halve.ensures in record {
+      fact = halved_is args.st u args.k args.depth args.a args.b pre.a_value.0 pre.a_value.1 _ pre.a_value.2 n.choose-choice.ensures _ _ _ _ _ line
+          c.is_second.ensures one R.nets1 R.nets2 h.0 h.1 h.2 h.3 ∙ v;
+      may_move = (one, omega (arith, R.spent, one), R.steps, (R.above below).few);
+    }

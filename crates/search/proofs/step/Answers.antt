@@ -22,11 +22,14 @@ net_of-requires-in-Node c = let args = c.args in
 pub take_verdict-requires : goal.take_verdict-requires
 take_verdict-requires c = let args = c.args in
     let u = memory args.nets1.now args.nets2.now args.ranges.now args.depths.now args.raw.now in
-    let A = accepted args.st u _ _ _ refl (sym c.in-Node.is ∙ c.find_top.ensures) in record { room = accepted-room args.st u _ _ A (search rules) (search rules); a_value = (
+    let A = accepted args.st u _ _ _ refl (sym c.in-Node.is ∙ c.find_top.ensures) in record {
+      room = accepted-room args.st u _ _ A (search rules) (search rules);
+      a_value = (
         c.net_box-a.ensures ∙ ap box_of c.net_of.ensures.result_value,
         c.net_box-b.ensures ∙ ap box_of c.net_of-in-Node.ensures.result_value,
         accepted_depth args.st u _ _ A,
-      ) }
+      );
+    }
 
 pub returns-in-Ended : goal.returns-in-Ended
 returns-in-Ended c = let args = c.args in
