@@ -1,8 +1,10 @@
 // A sheet on standard input, its answer on standard output.
 #![tactic(auto)]
 
-ghost use Rattle.std.specs.Prelude.{◌≡◌, length};
+ghost use Rattle.std.specs.Prelude.{◌≡◌, ◌≤◌, true, length};
+ghost use Rattle.std.specs.Io.KnownBytes.{Appends};
 ghost use Rattle.sheet.specs.Answers.{longest};
+ghost use Rattle.charts.specs.Answers.{answer_of};
 
 use std::io;
 use std::io::Write;
@@ -22,7 +24,9 @@ fn answer_room() -> [u8; 162446]
 }
 
 // An instalment on standard output; whether that took the whole of it, and a line on standard error where it didn't.
-fn print_part<W: Write, E: Write>(to: &mut W, errors: &mut E, text: &[u8]) -> bool {
+fn print_part<W: Write, E: Write>(to: &mut W, errors: &mut E, text: &[u8]) -> bool
+    ensures { result ≡ true → Appends (W.contents to.old) (W.contents to.new) text.now }
+{
     if to.write_all(text).is_ok() {
         return true;
     }
@@ -30,25 +34,28 @@ fn print_part<W: Write, E: Write>(to: &mut W, errors: &mut E, text: &[u8]) -> bo
     false
 }
 
-// The answer in instalments: at most 64 reports, the last line and one more.
-fn print_answer<W: Write, E: Write>(to: &mut W, errors: &mut E, s: &[u8], out: &mut [u8]) {
+// The answer in instalments: at most 64 reports, the last line and one more. Whether it was written whole: then these bytes were, and no more.
+fn print_answer<W: Write, E: Write>(to: &mut W, errors: &mut E, s: &[u8], out: &mut [u8]) -> bool
+    ensures { result ≡ true → longest ≤ length out.old → Appends (W.contents to.old) (W.contents to.new) (answer_of s.now) }
+{
     let mut good = true;
     let mut k = 0usize;
     while k < 66 {
         let part = charts::next(s, k, good, out);
         let n = part.length;
         if n > out.len() {
-            return;
+            return false;
         }
         if !print_part(to, errors, &out[..n]) {
-            return;
+            return false;
         }
         if !part.more {
-            return;
+            return true;
         }
         good = part.good;
         k += 1;
     }
+    true
 }
 
 fn main(rt: HostRuntime) -> io::Result<()> {
