@@ -15,12 +15,12 @@ fn wide(x: u8) -> u64
 }
 
 // The next eight bytes, low byte first.
-fn read_word<R: Read>(from: &mut R) -> io::Result<u64> {
+fn read_word<R: Read>(from: &mut R) -> u64 {
     let mut s = [0u8; 8];
-    streams::read_full(from, &mut s)?;
+    streams::read_full(from, &mut s);
     let low = wide(s[0]) + wide(s[1]) * 256 + wide(s[2]) * 65536 + wide(s[3]) * 16777216;
     let high = wide(s[4]) + wide(s[5]) * 256 + wide(s[6]) * 65536 + wide(s[7]) * 16777216;
-    Ok(low + high * 4294967296)
+    low + high * 4294967296
 }
 
 // The float of any pattern: a NaN's pattern is never handed to `from_bits`.
@@ -107,13 +107,12 @@ fn print_verdict<W: Write>(to: &mut W, v: Verdict) -> io::Result<()> {
     }
 }
 
-fn read_net<R: Read>(from: &mut R, s: &mut [f64]) -> io::Result<()> {
+fn read_net<R: Read>(from: &mut R, s: &mut [f64]) {
     let mut i = 0;
     while i < s.len() {
-        s[i] = float(read_word(from)?);
+        s[i] = float(read_word(from));
         i += 1;
     }
-    Ok(())
 }
 
 // Two slots of up to 32 points.
@@ -165,8 +164,8 @@ fn run_nets<R: Read, W: Write>(
 {
     let n = 4 * v;
     let m = 4 * w;
-    read_net(from, &mut s[..n])?;
-    read_net(from, &mut t[..m])?;
+    read_net(from, &mut s[..n]);
+    read_net(from, &mut t[..m]);
     nets::copy_slot(s, 0, v);
     nets::copy_slot(t, 0, w);
     print_tests(
@@ -180,9 +179,9 @@ fn run_nets<R: Read, W: Write>(
 }
 
 fn run_case<R: Read, W: Write>(from: &mut R, to: &mut W) -> io::Result<()> {
-    let v = width(read_word(from)?);
-    let w = width(read_word(from)?);
-    let gap = float(read_word(from)?);
+    let v = width(read_word(from));
+    let w = width(read_word(from));
+    let gap = float(read_word(from));
     let mut s = slots();
     let mut t = slots();
     run_nets(from, to, &mut s, v, &mut t, w, gap)
@@ -192,7 +191,7 @@ fn run_case<R: Read, W: Write>(from: &mut R, to: &mut W) -> io::Result<()> {
 fn main(rt: HostRuntime) -> io::Result<()> {
     let mut from = rt.stdin();
     let mut to = rt.stdout();
-    let n = read_word(&mut from)?;
+    let n = read_word(&mut from);
     let mut i = 0u64;
     while i < n {
         run_case(&mut from, &mut to)?;

@@ -257,7 +257,7 @@ pub fn halve(
     depths: &mut [u8],
 )
     requires above { Above st k
-        (record { nets1 = length nets1.now; nets2 = length nets2.old; ranges = length ranges.old; depths = length depths.old; raw = 0 }) }
+        (record { nets1 = length nets1.old; nets2 = length nets2.old; ranges = length ranges.old; depths = length depths.old; raw = 0 }) }
     requires first_bound { (depth.first ≤ 32) × (depth.second ≤ 32) }
     ensures { (nets1.new ≡ slots_after (not second) st.width1 k nets1.old)
         × (nets2.new ≡ slots_after second st.width2 k nets2.old)

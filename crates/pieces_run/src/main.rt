@@ -4,7 +4,7 @@
 // and the multiplicities as words; a question is two lines, the gap and S. Words have 32 bits, floats 64, low byte first.
 #![tactic(auto)]
 
-ghost use Rattle.std.specs.Prelude.{◌≡◌, false, ◌+◌, ◌*◌, ◌<◌, ◌≤◌, ◌^◌, length, IfOk};
+ghost use Rattle.std.specs.Prelude.{◌≡◌, false, ◌+◌, ◌*◌, ◌<◌, ◌≤◌, ◌^◌, length};
 ghost use Rattle.lines.specs.declared.Admission.TheVariants.{Admitted};
 ghost use Rattle.lines.specs.Lines.{line_of};
 ghost use Rattle.lines.specs.Admit.{admit_of};
@@ -148,14 +148,14 @@ fn none() -> Header
     }
 }
 
-fn read_header<R: Read>(from: &mut R) -> io::Result<Header>
-    ensures { IfOk result (λ h. (h.knots ≤ 131) × (h.mults ≤ 131) × (h.coords ≤ 401) × (h.weights ≤ 131)) }
+fn read_header<R: Read>(from: &mut R) -> Header
+    ensures { (result.knots ≤ 131) × (result.mults ≤ 131) × (result.coords ≤ 401) × (result.weights ≤ 131) }
 {
     let mut b = room20();
-    if streams::read_full(from, &mut b)? < 20 {
-        return Ok(none());
+    if streams::read_full(from, &mut b) < 20 {
+        return none();
     }
-    Ok(header_of(&b))
+    header_of(&b)
 }
 
 fn put_floats(bytes: &[u8], out: &mut [f64])
@@ -179,26 +179,26 @@ fn put_words(bytes: &[u8], out: &mut [u32])
 }
 
 // Fills `out` from the input, and answers whether there was enough.
-fn read_floats<R: Read>(from: &mut R, out: &mut [f64]) -> io::Result<bool>
+fn read_floats<R: Read>(from: &mut R, out: &mut [f64]) -> bool
     requires { length out.old ≤ 1000 }
 {
     let mut b = room8000();
     let n = 8 * out.len();
     let bytes = &mut b[..n];
-    let got = streams::read_full(from, bytes)?;
+    let got = streams::read_full(from, bytes);
     put_floats(bytes, out);
-    Ok(got == n)
+    got == n
 }
 
-fn read_words<R: Read>(from: &mut R, out: &mut [u32]) -> io::Result<bool>
+fn read_words<R: Read>(from: &mut R, out: &mut [u32]) -> bool
     requires { length out.old ≤ 400 }
 {
     let mut b = room8000();
     let n = 4 * out.len();
     let bytes = &mut b[..n];
-    let got = streams::read_full(from, bytes)?;
+    let got = streams::read_full(from, bytes);
     put_words(bytes, out);
-    Ok(got == n)
+    got == n
 }
 
 fn print_refusal<W: Write>(to: &mut W, number: u8, line: u8) -> io::Result<()> {
@@ -344,7 +344,7 @@ fn third<R: Read, W: Write>(
     requires knots_bound_2 { (h2.knots ≤ 131) × (h2.coords ≤ 401) × (h2.weights ≤ 131) × (h2.knots + h2.coords + h2.weights + 2 ≤ length floats2.now) }
 {
     let mut b = room12();
-    if streams::read_full(from, &mut b)? < 12 {
+    if streams::read_full(from, &mut b) < 12 {
         return Ok(false);
     }
     let k1 = h1.knots;
@@ -384,7 +384,7 @@ fn second<R: Read, W: Write>(
 ) -> io::Result<bool>
     requires { (h1.knots ≤ 131) × (h1.coords ≤ 401) × (h1.weights ≤ 131) × (h1.knots + h1.coords + h1.weights + 2 ≤ length floats1.now) }
 {
-    let h = read_header(from)?;
+    let h = read_header(from);
     if !h.ok {
         return Ok(false);
     }
@@ -392,12 +392,12 @@ fn second<R: Read, W: Write>(
     let m = h.mults;
     let mut f = float_room();
     let floats = &mut f[..n];
-    if !read_floats(from, floats)? {
+    if !read_floats(from, floats) {
         return Ok(false);
     }
     let mut u = mult_room();
     let mults = &mut u[..m];
-    if !read_words(from, mults)? {
+    if !read_words(from, mults) {
         return Ok(false);
     }
     third(from, to, h1, floats1, mults1, h, floats, mults)
@@ -405,7 +405,7 @@ fn second<R: Read, W: Write>(
 
 // One question read and answered; false where the input ends.
 fn first<R: Read, W: Write>(from: &mut R, to: &mut W) -> io::Result<bool> {
-    let h = read_header(from)?;
+    let h = read_header(from);
     if !h.ok {
         return Ok(false);
     }
@@ -413,12 +413,12 @@ fn first<R: Read, W: Write>(from: &mut R, to: &mut W) -> io::Result<bool> {
     let m = h.mults;
     let mut f = float_room();
     let floats = &mut f[..n];
-    if !read_floats(from, floats)? {
+    if !read_floats(from, floats) {
         return Ok(false);
     }
     let mut u = mult_room();
     let mults = &mut u[..m];
-    if !read_words(from, mults)? {
+    if !read_words(from, mults) {
         return Ok(false);
     }
     second(from, to, h, floats, mults)

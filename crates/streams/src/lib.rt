@@ -1,39 +1,50 @@
 // Reading an input into lent memory, and numbers as text: what the programs share.
 #![tactic(auto)]
 
-ghost use Rattle.std.specs.Prelude.{◌≡◌, ◌≢◌, ◌<◌, length, take, IfOk, IfErr, OnOk};
+ghost use Rattle.std.specs.Prelude.{◌≡◌, ◌≢◌, ◌<◌, ◌≤◌, length, take, IfErr, OnOk};
 ghost use Rattle.std.specs.IoError.{error_kind};
-ghost use Rattle.std.specs.Io.{ReadsAtMost};
 ghost use Rattle.std.specs.Io.KnownBytes.{Appends, Consumes, IsAtEnd};
 ghost use Rattle.std.specs.Fmt.{decimal};
 
 use std::io::{Error, ErrorKind, Read, Result, Write};
 
-// Reads until `buf` is full or the input ends, and answers how many bytes were read: they stand at the front of `buf`.
+// Reads until `buf` is full, the input ends or a read fails: how many bytes were read, which stand at the front of `buf`, and whether a read failed.
 // A read that a signal interrupts is made again. Into an empty `buf` nothing is read.
-pub fn read_full<R: Read>(from: &mut R, buf: &mut [u8]) -> Result<usize>
-    ensures bound { ReadsAtMost result buf.new }
+pub fn read_on<R: Read>(from: &mut R, buf: &mut [u8]) -> (usize, Result<()>)
+    ensures bound { result.0 ≤ length buf.new }
     ensures same_length { length buf.new ≡ length buf.old }
-    ensures bytes { IfOk result (λ n. Consumes (R.remaining from.old) (R.remaining from.new) (take n buf.new)) }
-    ensures end { IfOk result (λ n. n < length buf.new → IsAtEnd (R.remaining from.new)) }
-    ensures retried { IfErr result (λ e. error_kind e ≢ ErrorKind.Interrupted) }
+    ensures bytes { Consumes (R.remaining from.old) (R.remaining from.new) (take result.0 buf.new) }
+    ensures end { OnOk result.1 (result.0 < length buf.new → IsAtEnd (R.remaining from.new)) }
+    ensures retried { IfErr result.1 (λ e. error_kind e ≢ ErrorKind.Interrupted) }
 {
     let mut done = 0;
     for _ in 0..u64::MAX {
         if done >= buf.len() {
-            return Ok(done);
+            return (done, Ok(()));
         }
         match from.read(&mut buf[done..]) {
-            Ok(0) => return Ok(done),
+            Ok(0) => return (done, Ok(())),
             Ok(n) => done += n,
             Err(e) => {
                 if e.kind() != ErrorKind::Interrupted {
-                    return Err(e);
+                    return (done, Err(e));
                 }
             }
         }
     }
-    Err(Error::new(ErrorKind::TimedOut, "gave up reading after 2^64 tries"))
+    let message = "gave up reading after 2^64 tries";
+    (done, Err(Error::new(ErrorKind::TimedOut, message)))
+}
+
+// The same where an input that can't be read is one that ends: how many bytes were read.
+pub fn read_full<R: Read>(from: &mut R, buf: &mut [u8]) -> usize
+    ensures bound { result ≤ length buf.new }
+    ensures same_length { length buf.new ≡ length buf.old }
+    ensures bytes { Consumes (R.remaining from.old) (R.remaining from.new) (take result buf.new) }
+{
+    let (n, fault) = read_on(from, buf);
+    let _ = fault;
+    n
 }
 
 // Writes the decimal digits of n, with no line end.
@@ -72,21 +83,20 @@ mod tests {
     }
 
     #[test]
-    fn reads_in_pieces(rt: HostRuntime) -> Result<()> {
+    fn reads_in_pieces(rt: HostRuntime) {
         for (room, want) in [(0, 0), (1, 1), (2, 2), (5, 2)] {
             let mut from = Pieces {
                 turn: 0,
                 fails: false,
             };
             let mut buf = [9u8; 5];
-            let n = read_full(&mut from, &mut buf[..room])?;
+            let n = read_full(&mut from, &mut buf[..room]);
             assert_eq!(rt; n, want, "with room for {room}");
             for i in 0..5usize {
                 let byte = if i < n { 1 + 2 * (i as u8) } else { 9 };
                 assert_eq!(rt; buf[i], byte, "with room for {room}, at {i}");
             }
         }
-        Ok(())
     }
 
     #[test]
@@ -96,11 +106,13 @@ mod tests {
             fails: true,
         };
         let mut buf = [0u8; 5];
-        let kind = match read_full(&mut from, &mut buf) {
-            Ok(_) => None,
+        let (n, fault) = read_on(&mut from, &mut buf);
+        let kind = match fault {
+            Ok(()) => None,
             Err(e) => Some(e.kind()),
         };
         assert!(rt; kind == Some(ErrorKind::Other));
+        assert_eq!(rt; n, 2);
     }
 
     #[test]

@@ -1,8 +1,8 @@
 -- Each read takes the next bytes and puts them behind those that are there; one that is interrupted takes none.
 use Rattle.std.proofs.Common.{◌-◌, length, rules}
 use Rattle.streams.proofs.Fronts.{reads_more, reads_none}
-use Rattle.streams.proofs.read_full.Goals as goal
-use Rattle.streams.proofs.read_full.Goals.{in-Ok, in-Err+else-ne}
+use Rattle.streams.proofs.read_on.Goals as goal
+use Rattle.streams.proofs.read_on.Goals.{in-Ok, in-Err+else-ne}
 
 pub loop-preserved : goal.loop-preserved
 loop-preserved g c =
