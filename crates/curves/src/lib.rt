@@ -75,13 +75,10 @@ fn around(poles: &[f64], n: usize, m: usize, p: usize, out: &mut [f64])
     let mut j = 0;
     while j < n + p {
         let i = 4 * turn_pole(n, m, j);
-        lists::put4(
+        lists::put(
             out,
             4 * j,
-            poles[i],
-            poles[i + 1],
-            poles[i + 2],
-            poles[i + 3],
+            [poles[i], poles[i + 1], poles[i + 2], poles[i + 3]],
         );
         j += 1;
     }

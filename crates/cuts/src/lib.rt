@@ -76,7 +76,7 @@ fn cut_up_to(s: &mut [f64], n: usize, f: f64)
     let mut low = scratch();
     let t = &mut low[..len];
     cut_to(s, n, f, t);
-    lists::copy_from_slice(s, t);
+    s.copy_from_slice(t);
 }
 
 // The cut at `f0`.

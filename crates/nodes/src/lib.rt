@@ -155,13 +155,13 @@ fn split_ranges(ranges: &mut [f64], k: usize, second: bool)
     let b1 = ranges[at + 3];
     if second {
         let mid = floats::mean(b0, b1);
-        lists::put4(ranges, at, a0, a1, mid, b1);
-        lists::put4(ranges, at + 4, a0, a1, b0, mid);
+        lists::put(ranges, at, [a0, a1, mid, b1]);
+        lists::put(ranges, at + 4, [a0, a1, b0, mid]);
         return;
     }
     let mid = floats::mean(a0, a1);
-    lists::put4(ranges, at, mid, a1, b0, b1);
-    lists::put4(ranges, at + 4, a0, mid, b0, b1);
+    lists::put(ranges, at, [mid, a1, b0, b1]);
+    lists::put(ranges, at + 4, [a0, mid, b0, b1]);
 }
 
 // Which line is halved: the one with the larger box, the second where they are equal; the other where that line is at the limit; neither where both are.

@@ -25,5 +25,5 @@ pub fn put(s: &mut [f64], at: usize, q: Point4D)
     requires { at + 4 ≤ length s.old }
     ensures { s.new ≡ patch s.old at (q.x ∷ q.y ∷ q.z ∷ q.w ∷ []) }
 {
-    lists::put4(s, at, q.x, q.y, q.z, q.w);
+    lists::put(s, at, [q.x, q.y, q.z, q.w]);
 }

@@ -81,10 +81,11 @@ pub fn store(s: &mut [f64], i: usize, r: Region)
     requires { (i + 1) * 10 ≤ length s.old }
     ensures { s.new ≡ patch s.old (i * 10) (flat r) }
 {
-    let at = i * 10;
-    lists::put4(s, at, r.a0, r.a1, r.b0, r.b1);
-    lists::put3(s, at + 4, r.x0, r.y0, r.z0);
-    lists::put3(s, at + 7, r.x1, r.y1, r.z1);
+    lists::put(
+        s,
+        i * 10,
+        [r.a0, r.a1, r.b0, r.b1, r.x0, r.y0, r.z0, r.x1, r.y1, r.z1],
+    );
 }
 
 // The region in the i-th place of ten floats.

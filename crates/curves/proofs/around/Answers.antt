@@ -19,7 +19,7 @@ loop-j-preserved c = let l = c.loop-j in
     let a = c.args in
     let h = c.requires in
     let s = c.turn_pole-i.ensures.0 in
-    (search rules, search rules, around_turn a.n a.m a.p a.poles.now h.0 h.4 l.out _ l.j (search rules) (omega (arith, l.invariant.0, h.5)) (c.put4.ensures ∙ (λ i. patch l.out (4 * l.j) (get_or a.poles.now (4 * s i) nan ∷ get_or a.poles.now (4 * s i + 1) nan ∷ get_or a.poles.now (4 * s i + 2) nan ∷ get_or a.poles.now (4 * s i + 3) nan ∷ []))) ∙ l.invariant.2)
+    (search rules, search rules, around_turn a.n a.m a.p a.poles.now h.0 h.4 l.out _ l.j (search rules) (omega (arith, l.invariant.0, h.5)) (c.put.ensures ∙ (λ i. patch l.out (4 * l.j) (get_or a.poles.now (4 * s i) nan ∷ get_or a.poles.now (4 * s i + 1) nan ∷ get_or a.poles.now (4 * s i + 2) nan ∷ get_or a.poles.now (4 * s i + 3) nan ∷ []))) ∙ l.invariant.2)
 
 pub returns : goal.returns
 returns c = let l = c.loop-j in

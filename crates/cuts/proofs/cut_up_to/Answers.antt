@@ -21,4 +21,4 @@ copy_from_slice-requires c = let h = c.scratch-low in
     m.auto.s ∙ c.requires.1 ∙ sym n ∙ sym m.auto.low
 
 pub returns : goal.returns
-returns c = c.copy_from_slice.ensures ∙ c.cut_to.ensures
+returns c = c.copy_from_slice.ensures.after ∙ c.cut_to.ensures

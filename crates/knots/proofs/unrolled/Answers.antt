@@ -14,4 +14,4 @@ copy_from_slice-requires c = length-take-le _ _ (omega arith)
 pub returns : goal.returns
 returns c = let d = c in
     let a = d.args in
-    (omega arith, laws.unrolled_built a.knots.now _ _ _ _ d.copy_from_slice.ensures c.shift.ensures)
+    (omega arith, laws.unrolled_built a.knots.now _ _ _ _ d.copy_from_slice.ensures.after c.shift.ensures)

@@ -13,7 +13,7 @@ loop-r-init c = let a = c.args in
 pub loop-r-preserved : goal.loop-r-preserved
 loop-r-preserved c = let a = c.args in
     let l = c.loop-r in
-    let p = c.put4 in
+    let p = c.put in
     let m = c.mean_round in (
       search rules,
       search rules,

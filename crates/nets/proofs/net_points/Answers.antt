@@ -13,7 +13,7 @@ loop-i-init c = (search rules, search rules, refl)
 pub loop-i-preserved : goal.loop-i-preserved
 loop-i-preserved c = let net = c.args.net.now in
     let l = c.loop-i in
-    let p = c.put3 in
+    let p = c.put in
     (search rules, search rules, points_turn net l.out p.new.s (length net / 4) l.i (search rules) (omega arith) l.invariant.0 p.ensures ∙ l.invariant.2)
 
 pub returns : goal.returns

@@ -8,11 +8,11 @@ returns-then-second c = let args = c.args in
     rw c.if-second.true
     (ranges_second args.ranges.now _ _ args.k _ (search rules)
     c.mean-mid.ensures
-    c.put4.ensures c.put4-then-second.ensures)
+    c.put.ensures c.put-then-second.ensures)
 
 pub returns : goal.returns
 returns c = let args = c.args in
     rw c.if-second.false
     (ranges_first args.ranges.now _ _ args.k _ (search rules)
     c.mean-mid-2.ensures
-    c.put4-2.ensures c.put4-3.ensures)
+    c.put-2.ensures c.put-3.ensures)

@@ -8,5 +8,5 @@ use Rattle.pairs.proofs.put_slot.Goals as goal
 pub returns : goal.returns
 returns c = let args = c.args in
     given_back (args.k * (4 * args.w)) (4 * args.w)
-    (c.copy_from_slice.ensures ∙ c.slot-net.ensures.result_value) refl
+    (c.copy_from_slice.ensures.after ∙ c.slot-net.ensures.result_value) refl
     (ap length (sym c.slot-net.ensures.result_value) ∙ c.slot-net.ensures.result_len)
