@@ -32,7 +32,8 @@ use Rattle.opening.specs.declared.Opened.TheVariants.{Open, BadLine, BadDatum, B
 use Rattle.opening.specs.Asked.{start, state_of as search_state}
 use Rattle.opening.specs.Opens.{search_for, is_admitted, is_fine, pieces_fit, Pushing, pushing, Opening, opening, open_pieces, open_def}
 use Rattle.words.proofs.Laws.{within, reads_back, reads_moved}
-use Rattle.words.specs.Words.{is_state, state_of, verdict_of}
+use Rattle.words.specs.Words.{is_state, state_of}
+use Rattle.verdicts.specs.Verdicts.{verdict_of}
 use Rattle.lovgurshem.specs.Answers.{opened_words, stepped_words}
 use Rattle.lovgurshem.specs.Calls.{call_open, call_step, call_run}
 use Rattle.lovgurshem.specs.Carried.{Doubles, OpenCarried, StepCarried, RunCarried}

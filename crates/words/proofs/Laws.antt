@@ -16,12 +16,10 @@ use Rattle.lists.specs.Parts.{patch}
 use Rattle.lists.specs.Tests.{every}
 use Rattle.texts.proofs.Laws.{copy_turn}
 use Rattle.states.proofs.Tests.{and_first, and_second}
-use Rattle.verdicts.specs.declared.Test.TheVariants.{Box, Plane, Line}
-use Rattle.verdicts.specs.declared.Verdict.TheVariants.{Settled, Split, Unseparated}
 use Rattle.states.specs.declared.Tally.{Tally}
 use Rattle.states.specs.declared.State.{State}
 use Rattle.terms.specs.declared.Terms.{Terms}
-use Rattle.words.specs.Words.{flag_of, last_words, words_of, moved_words, tally_in, word_terms, state_of, counts_fit, is_width, tags_fit, turns_fit, is_state, Within, VerdictsRead}
+use Rattle.words.specs.Words.{flag_of, last_words, words_of, moved_words, tally_in, word_terms, state_of, counts_fit, is_width, tags_fit, turns_fit, is_state, Within}
 
 -- ---- the tests of the words, as facts on numbers
 and_both : (a b : Bool) → a ≡ true → b ≡ true → a && b ≡ true
@@ -253,10 +251,3 @@ reads_moved ws x n =
       gap = g i;
       terms = t i;
     }) ws (omega arith)
-
-pub verdicts_read : VerdictsRead
-verdicts_read (Settled Box) = refl
-verdicts_read (Settled Plane) = refl
-verdicts_read (Settled Line) = refl
-verdicts_read Split = refl
-verdicts_read Unseparated = refl

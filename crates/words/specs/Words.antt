@@ -1,13 +1,9 @@
--- A state as words of 64 bits, and verdicts as numbers, as other programs hand them over. Definitions only.
+-- A state as words of 64 bits, as other programs hand it over. Definitions only.
 use Rattle.std.specs.Prelude.{◌≡◌, List, [], ◌∷◌, Bool, true, false, ◌&&◌, cond, ℕ, ◌≤◌, leb, eqb, length, get_or, set}
 use Rattle.std.specs.Float.{binary64}
 use Rattle.std.specs.Float.Ieee.{of_bits, to_bits}
 use Rattle.lists.specs.Parts.{part, patch}
 use Rattle.lists.specs.Tests.{every}
-use Rattle.verdicts.specs.declared.Test.TheVariants.{Box, Plane, Line}
-use Rattle.verdicts.specs.declared.Verdict.{Verdict}
-use Rattle.verdicts.specs.declared.Verdict.TheVariants.{Settled, Split, Unseparated}
-use Rattle.verdicts.specs.Verdicts.{verdict_number}
 use Rattle.states.specs.declared.Tally.{Tally}
 use Rattle.states.specs.declared.State.{State}
 use Rattle.terms.specs.declared.Terms.{Terms}
@@ -126,13 +122,3 @@ pub record Within (ws : List ℕ) : Type 0 where
   pub lines : get_or ws 14 0 ≤ 4294967295
   pub width1 : get_or ws 8 0 ≤ 26
   pub width2 : get_or ws 9 0 ≤ 26
-
--- ---- verdicts as numbers
-
--- a verdict handed to a step: 1, 4 and 5 are Settled by box, plane and line, 2 Split, and every other number Unseparated, which loses nothing (`verdict_of`)
-abbrev pub verdict_of : ℕ → Verdict
-verdict_of n = cond (eqb n 1) (Settled Box) (cond (eqb n 4) (Settled Plane) (cond (eqb n 5) (Settled Line) (cond (eqb n 2) Split Unseparated)))
-
--- every verdict is read back from its number, its test included: what own verdict answers is what a step takes
-abbrev pub VerdictsRead : Type 0
-VerdictsRead = (v : Verdict) → verdict_of (verdict_number v) ≡ v

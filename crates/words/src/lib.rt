@@ -1,14 +1,12 @@
-// A state as 23 words of 64 bits, and verdicts as numbers: how other programs hand them over.
+// A state as 23 words of 64 bits: how other programs hand it over.
 #![tactic(auto)]
 
 ghost use Rattle.std.specs.Prelude.{◌≡◌, true, ◌≤◌, length};
 ghost use Rattle.lists.specs.Parts.{patch};
-ghost use Rattle.verdicts.specs.Verdicts.{test_number, verdict_number};
-ghost use Rattle.words.specs.Words.{flag_of, words_of, moved_words, tally_in, word_terms, state_of, counts_fit, is_width, tags_fit, are_zero, turns_fit, is_state, Within, verdict_of};
+ghost use Rattle.words.specs.Words.{flag_of, words_of, moved_words, tally_in, word_terms, state_of, counts_fit, is_width, tags_fit, are_zero, turns_fit, is_state, Within};
 
 use states::{State, Tally};
 use terms::Terms;
-use verdicts::{Test, Verdict};
 
 // ---- which words are a state's
 
@@ -247,45 +245,4 @@ pub fn move_state(st: State, w: &mut [u64])
     w[12] = t.boxes as u64;
     w[13] = t.planes as u64;
     w[14] = t.lines as u64;
-}
-
-// ---- verdicts as numbers
-
-fn test_number(t: Test) -> u32
-    ensures { result ≡ test_number t }
-{
-    match t {
-        Test::Box => 1,
-        Test::Plane => 4,
-        Test::Line => 5,
-    }
-}
-
-pub fn verdict_number(v: Verdict) -> u32
-    ensures { result ≡ verdict_number v }
-{
-    match v {
-        Verdict::Settled(t) => test_number(t),
-        Verdict::Split => 2,
-        Verdict::Unseparated => 3,
-    }
-}
-
-// 1, 4 and 5 are Settled by box, plane and line, 2 Split, every other number Unseparated.
-pub fn verdict_of(n: u32) -> Verdict
-    ensures { result ≡ verdict_of n }
-{
-    if n == 1 {
-        return Verdict::Settled(Test::Box);
-    }
-    if n == 4 {
-        return Verdict::Settled(Test::Plane);
-    }
-    if n == 5 {
-        return Verdict::Settled(Test::Line);
-    }
-    if n == 2 {
-        return Verdict::Split;
-    }
-    Verdict::Unseparated
 }
