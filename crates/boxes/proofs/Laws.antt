@@ -2,26 +2,26 @@
 use mathlib.Core.Path.{◌≡◌, refl, sym, ap, ◌∙◌, subst}
 use mathlib.Core.Bool.{Bool, true, false, not, cond}
 use mathlib.Core.List.{List, [], ◌∷◌, ◌++◌, foldl}
-use Prim.Native.Nat.{ℕ, ◌+◌, ◌-◌, ◌*◌, ◌/◌, ◌≤◌, ◌<◌}
+use Prim.Native.Nat.{ℕ, ◌+◌, ◌*◌, ◌/◌, ◌≤◌, ◌<◌}
 use native.Mathlib.Omega.{arith}
 use lib.Dec.{T, ltb}
-use lib.ListN.{length, take, drop, length-drop}
+use lib.ListN.{length, take, drop}
 use lib.Seq.{take_at, take-append_seam}
-use lib.Ieee.{Float, nan}
+use lib.Ieee.{Float, inf, binary64, of_bits}
+use Rattle.std.specs.declared.slice.ChunksExact.{ChunksExact}
+use Rattle.std.specs.List.{fold}
+use Rattle.std.specs.Slice.Iter.{chunks_exact_rest, chunks_exact_size, chunks_exact_steps}
+use Rattle.std.proofs.lemmas.Iterator.{YieldsList}
+use Rattle.std.proofs.lemmas.Iterator.Splits.{YieldsList-from_shown_while}
+use Rattle.boxes.specs.declared.Aabb.{Aabb}
 use borrow.Author.Tests.{ltb-false, lt-ltb, le-ltb}
-use Rattle.lists.proofs.Loops.{drop3}
-use Rattle.floats.specs.declared.Vector3D.{Vector3D}
 use Rattle.nets.specs.Points.{points_of}
 use Rattle.nets.proofs.Laws.{length_points}
 use Rattle.boxes.specs.Points.{point_at, vectors}
-use Rattle.boxes.specs.Boxes.{everything, bounding_box}
+use Rattle.boxes.specs.Boxes.{cube_of, grown, everything, bounding_box}
 use Rattle.boxes.specs.Nets.{in_measure, has_width, out_of_measure, box_of, measured, measured_in, measured_box}
 
 -- ---- the points from place i on
-pub vectors_on : (l : List Float) (i : ℕ) → i + 3 ≤ length l → vectors (drop i l) ≡ point_at l i ∷ vectors (drop (i + 3) l)
-unfolding vectors
-vectors_on l i h = rw (drop3 l i nan h) refl
-
 short : (l : List Float) → length l < 3 → vectors l ≡ []
 unfolding vectors
 short [] h = refl
@@ -29,16 +29,41 @@ short (x ∷ []) h = refl
 short (x ∷ y ∷ []) h = refl
 short (x ∷ y ∷ z ∷ l) h = absurd (omega arith)
 
-pub vectors_end : (l : List Float) (i : ℕ) → length l - i < 3 → vectors (drop i l) ≡ []
-vectors_end l i h = short (drop i l) (rw (length-drop i l) h)
+-- ---- a slice's chunks of three, as points
+three_more : (p r : List Float) → length p ≡ 3 → vectors (p ++ r) ≡ point_at p 0 ∷ vectors r
+unfolding vectors
+three_more (x ∷ y ∷ z ∷ []) r h = refl
+three_more [] r h = absurd (omega arith)
+three_more (x ∷ []) r h = absurd (omega arith)
+three_more (x ∷ y ∷ []) r h = absurd (omega arith)
+three_more (x ∷ y ∷ z ∷ w ∷ l) r h = absurd (omega arith)
 
--- ---- a loop that folds over the points
-pub fold_on : {B : Type 0} (f : B → Vector3D → B) (b b' : B) (l : List Float) (i : ℕ) → i + 3 ≤ length l → b' ≡ f b (point_at l i)
-    → foldl f b' (vectors (drop (i + 3) l)) ≡ foldl f b (vectors (drop i l))
-fold_on f b b' l i h e = rw (vectors_on l i h, e) refl
+pub points_of_chunks : {s : ChunksExact Float} (l : List Float) → chunks_exact_rest s ≡ l → chunks_exact_size s ≡ 3
+    → YieldsList chunks_exact_steps (λ w. point_at w.now 0) s (vectors l)
+points_of_chunks {s} l e n =
+    subst (λ k. YieldsList chunks_exact_steps (λ w. point_at w.now 0) s (vectors k)) e
+    (YieldsList-from_shown_while chunks_exact_steps (λ w. point_at w.now 0) (λ t. vectors (chunks_exact_rest t)) (λ t. chunks_exact_size t ≡ 3)
+    (λ t u k h. ap length (short (chunks_exact_rest t) (omega (arith, h.1.0, k))))
+    (λ t x u k h. (h.0 ∙ k, ap vectors h.1.0 ∙ three_more x.now (chunks_exact_rest u) (h.1.1 ∙ k)))
+    s n)
 
-pub fold_end : {B : Type 0} (f : B → Vector3D → B) (b r : B) (l : List Float) (i : ℕ) → length l - i < 3 → foldl f b (vectors (drop i l)) ≡ r → b ≡ r
-fold_end f b r l i h e = rw (vectors_end l i h) at e
+-- ---- the box of all points
+same_folds : {A B : Type 0} (f : B → A → B) (b : B) (l : List A) → fold f b l ≡ foldl f b l
+same_folds f b [] = refl
+same_folds f b (x ∷ l) = same_folds f (f b x) l
+
+pub plus_infinity : of_bits binary64 0x7ff0_0000_0000_0000 ≡ inf false
+unfolding of_bits
+plus_infinity = refl
+
+pub minus_infinity : of_bits binary64 0xfff0_0000_0000_0000 ≡ inf true
+unfolding of_bits
+minus_infinity = refl
+
+pub box_by_fold : (l : List Float) (start r : Aabb) → start ≡ cube_of (of_bits binary64 0x7ff0_0000_0000_0000) (of_bits binary64 0xfff0_0000_0000_0000)
+    → r ≡ fold grown start (vectors l) → r ≡ bounding_box l
+unfolding bounding_box
+box_by_fold l start r e f = f ∙ same_folds grown start (vectors l) ∙ ap (λ b. foldl grown b (vectors l)) (e ∙ rw (plus_infinity, minus_infinity) refl)
 
 -- ---- the points of a net, found to be in measure or not
 pub record Measured (net out : List Float) (r : ℕ) (after : List Float) : Type 0 where

@@ -2,7 +2,6 @@
 #![tactic(auto)]
 
 ghost use Rattle.std.specs.Prelude.{◌≡◌, false, ◌+◌, ◌≤◌, length};
-ghost use Rattle.std.specs.Float.{inf};
 ghost use Rattle.boxes.specs.Points.{point_at};
 ghost use Rattle.boxes.specs.Boxes.{cube_of, grown, bounding_box, apart_by, boxes_apart, sides_of, box_size, second_halved};
 ghost use Rattle.boxes.specs.Nets.{in_measure, measured, measured_in, room, measured_box, box_of};
@@ -18,12 +17,6 @@ pub struct Aabb {
     pub x1: f64,
     pub y1: f64,
     pub z1: f64,
-}
-
-pub fn infinity() -> f64
-    ensures { result ≡ inf false }
-{
-    1.0 / 0.0
 }
 
 // The box from lo to hi along each axis.
@@ -70,36 +63,28 @@ fn grow(b: Aabb, p: Vector3D) -> Aabb
 fn bounding_box(points: &[f64]) -> Aabb
     ensures { result ≡ bounding_box points.now }
 {
-    let mut b = cube(infinity(), -infinity());
-    let mut i = 0;
-    while points.len() - i >= 3 {
-        b = grow(b, point_at(points, i));
-        i += 3;
-    }
-    b
+    points.chunks_exact(3).fold(
+        cube(f64::INFINITY, f64::NEG_INFINITY),
+        |b, p| grow(b, point_at(p, 0)),
+    )
 }
 
 // Whether one range lies beyond the other by more than the gap.
+#[tactic(auto, unfolding(crate::specs::Boxes::apart_by))]
 pub fn ranges_apart(a0: f64, a1: f64, b0: f64, b1: f64, gap: f64) -> bool
     ensures { result ≡ apart_by gap a0 a1 b0 b1 }
 {
-    if a0 > b1 + gap {
-        return true;
-    }
-    b0 > a1 + gap
+    a0 > b1 + gap || b0 > a1 + gap
 }
 
 // Whether the boxes are more than the gap apart along some axis.
+#[tactic(auto, unfolding(crate::specs::Boxes::boxes_apart))]
 pub fn boxes_apart(a: Aabb, b: Aabb, gap: f64) -> bool
     ensures { result ≡ boxes_apart gap a b }
 {
-    if ranges_apart(a.x0, a.x1, b.x0, b.x1, gap) {
-        return true;
-    }
-    if ranges_apart(a.y0, a.y1, b.y0, b.y1, gap) {
-        return true;
-    }
-    ranges_apart(a.z0, a.z1, b.z0, b.z1, gap)
+    ranges_apart(a.x0, a.x1, b.x0, b.x1, gap)
+        || ranges_apart(a.y0, a.y1, b.y0, b.y1, gap)
+        || ranges_apart(a.z0, a.z1, b.z0, b.z1, gap)
 }
 
 // The sides of a box.
@@ -114,6 +99,7 @@ fn sides(b: Aabb) -> Vector3D
 }
 
 // The length of the box's diagonal.
+#[tactic(auto, unfolding(crate::specs::Boxes::box_size))]
 pub fn box_size(b: Aabb) -> f64
     ensures { result ≡ box_size b }
 {
@@ -121,6 +107,7 @@ pub fn box_size(b: Aabb) -> f64
 }
 
 // Whether the second line is the one to halve: its box b is no smaller than a.
+#[tactic(auto, unfolding(crate::specs::Boxes::second_halved, crate::specs::Boxes::box_size))]
 pub fn second_halved(a: Aabb, b: Aabb) -> bool
     ensures { result ≡ second_halved a b }
 {
@@ -131,21 +118,17 @@ pub fn second_halved(a: Aabb, b: Aabb) -> bool
 fn in_measure(points: &[f64]) -> bool
     ensures { result ≡ in_measure points.now }
 {
-    let mut i = 0;
-    while i < points.len() {
-        if !floats::is_within(-33554432.0, 33554432.0, points[i]) {
-            return false;
-        }
-        i += 1;
-    }
-    true
+    points
+        .iter()
+        .all(|x| floats::is_within(-33554432.0, 33554432.0, *x))
 }
 
 // Room for the points of a net of up to 26.
+#[tactic(auto, unfolding(crate::specs::Nets::room))]
 pub fn scratch() -> [f64; 78]
     ensures { (result ≡ room) × (length result ≡ 78) }
 {
-    [0.0f64; 78]
+    [0.0; 78]
 }
 
 // The points of a net go to the start of out; of a net out of measure none of them count.
@@ -169,11 +152,12 @@ pub fn measure(net: &[f64], out: &mut [f64]) -> usize
 }
 
 // The box of a net's points; everything where there are none.
+#[tactic(auto, unfolding(crate::specs::Nets::measured_box))]
 pub fn measured_box(points: &[f64]) -> Aabb
     ensures { result ≡ measured_box points.now }
 {
     if points.len() < 3 {
-        return cube(-infinity(), infinity());
+        return cube(f64::NEG_INFINITY, f64::INFINITY);
     }
     bounding_box(points)
 }

@@ -8,124 +8,57 @@ use std::io;
 use std::io::{Read, Write};
 use verdicts::{Test, Verdict};
 
-fn wide(x: u8) -> u64
-    ensures { result < 256 }
-{
-    x as u64
-}
-
 // The next eight bytes, low byte first.
 fn read_word<R: Read>(from: &mut R) -> u64 {
-    let mut s = [0u8; 8];
-    streams::read_full(from, &mut s);
-    let low = wide(s[0]) + wide(s[1]) * 256 + wide(s[2]) * 65536 + wide(s[3]) * 16777216;
-    let high = wide(s[4]) + wide(s[5]) * 256 + wide(s[6]) * 65536 + wide(s[7]) * 16777216;
-    low + high * 4294967296
+    let mut bytes = [0u8; 8];
+    streams::read_full(from, &mut bytes);
+    u64::from_le_bytes(bytes)
 }
 
-// The float of any pattern: a NaN's pattern is never handed to `from_bits`.
-fn float(n: u64) -> f64 {
-    if n % 0x8000_0000_0000_0000 > 0x7ff0_0000_0000_0000 {
-        return 0.0 / 0.0;
-    }
-    f64::from_bits(n)
-}
-
-fn bits(x: f64) -> u64 {
-    if x != x {
-        return 0x7ff8_0000_0000_0000;
-    }
-    f64::to_bits(x)
-}
-
-fn digit(n: u64) -> u8
-    requires { n < 16 }
-{
-    if n < 10 {
-        48 + (n % 256) as u8
-    } else {
-        55 + (n % 256) as u8
-    }
+fn read_float<R: Read>(from: &mut R) -> f64 {
+    patterns::float(read_word(from))
 }
 
 // Sixteen hexadecimal digits and a space.
 fn print_bits<W: Write>(to: &mut W, x: f64) -> io::Result<()> {
-    let mut out = [32u8; 17];
-    let mut left = bits(x);
-    let mut i = 16;
-    while i > 0 {
-        i -= 1;
-        out[i] = digit(left % 16);
-        left = left / 16;
-    }
-    to.write_all(&out)
+    write!(to, "{:016X} ", patterns::pattern(x))
 }
 
 fn print_net<W: Write>(to: &mut W, s: &[f64]) -> io::Result<()> {
-    let mut i = 0;
-    while i < s.len() {
-        print_bits(to, s[i])?;
-        i += 1;
+    for x in s {
+        print_bits(to, *x)?;
     }
     to.write_all(b"\n")
 }
 
 // The corners, zeros as +0, and the size.
 fn print_box<W: Write>(to: &mut W, b: Aabb) -> io::Result<()> {
-    print_bits(to, b.x0 + 0.0)?;
-    print_bits(to, b.y0 + 0.0)?;
-    print_bits(to, b.z0 + 0.0)?;
-    print_bits(to, b.x1 + 0.0)?;
-    print_bits(to, b.y1 + 0.0)?;
-    print_bits(to, b.z1 + 0.0)?;
+    for x in [b.x0, b.y0, b.z0, b.x1, b.y1, b.z1] {
+        print_bits(to, x + 0.0)?;
+    }
     print_bits(to, boxes::box_size(b))?;
     to.write_all(b"\n")
 }
 
-fn print_flag<W: Write>(to: &mut W, flag: bool) -> io::Result<()> {
-    if flag {
-        to.write_all(b" yes")
-    } else {
-        to.write_all(b" no")
-    }
-}
-
-fn print_test<W: Write>(to: &mut W, t: Test) -> io::Result<()> {
-    match t {
-        Test::Box => to.write_all(b"box"),
-        Test::Plane => to.write_all(b"plane"),
-        Test::Line => to.write_all(b"line"),
-    }
+fn flag(yes: bool) -> &'static str {
+    if yes { "yes" } else { "no" }
 }
 
 // A settled pair by the test that passed.
-fn print_verdict<W: Write>(to: &mut W, v: Verdict) -> io::Result<()> {
+fn verdict_name(v: Verdict) -> &'static str {
     match v {
-        Verdict::Settled(t) => print_test(to, t),
-        Verdict::Split => to.write_all(b"split"),
-        Verdict::Unseparated => to.write_all(b"unseparated"),
+        Verdict::Settled(Test::Box) => "box",
+        Verdict::Settled(Test::Plane) => "plane",
+        Verdict::Settled(Test::Line) => "line",
+        Verdict::Split => "split",
+        Verdict::Unseparated => "unseparated",
     }
 }
 
 fn read_net<R: Read>(from: &mut R, s: &mut [f64]) {
-    let mut i = 0;
-    while i < s.len() {
-        s[i] = float(read_word(from));
-        i += 1;
+    for x in s {
+        *x = read_float(from);
     }
-}
-
-// Two slots of up to 32 points.
-fn slots() -> [f64; 256]
-    ensures { length result ≡ 256 }
-{
-    [0.0f64; 256]
-}
-
-fn width(n: u64) -> usize
-    ensures { result ≤ 32 }
-{
-    if n < 32 { n as usize } else { 32 }
 }
 
 fn print_halves<W: Write>(to: &mut W, s: &mut [f64], w: usize) -> io::Result<()>
@@ -142,15 +75,15 @@ fn print_tests<W: Write>(to: &mut W, first: &[f64], second: &[f64], gap: f64) ->
     let judged = clearing::judge_boxes(first, second, gap);
     let a = judged.a;
     let b = judged.b;
-    print_verdict(to, clearing::judge(first, second, gap))?;
-    print_flag(to, boxes::boxes_apart(a, b, gap))?;
-    print_flag(to, !boxes::second_halved(a, b))?;
-    to.write_all(b"\n")?;
+    let verdict = verdict_name(clearing::judge(first, second, gap));
+    let apart = flag(boxes::boxes_apart(a, b, gap));
+    let first_halved = flag(!boxes::second_halved(a, b));
+    writeln!(to, "{verdict} {apart} {first_halved}")?;
     print_box(to, boxes::net_box(first))?;
     print_box(to, b)
 }
 
-// Reads both nets into their slot 0, judges them from slot 1, and halves them.
+// Reads both nets, of up to 32 points, into their slot 0, judges them from slot 1, and halves them.
 fn run_nets<R: Read, W: Write>(
     from: &mut R,
     to: &mut W,
@@ -179,11 +112,11 @@ fn run_nets<R: Read, W: Write>(
 }
 
 fn run_case<R: Read, W: Write>(from: &mut R, to: &mut W) -> io::Result<()> {
-    let v = width(read_word(from));
-    let w = width(read_word(from));
-    let gap = float(read_word(from));
-    let mut s = slots();
-    let mut t = slots();
+    let v = read_word(from).min(32) as usize;
+    let w = read_word(from).min(32) as usize;
+    let gap = read_float(from);
+    let mut s = [0.0; 256];
+    let mut t = [0.0; 256];
     run_nets(from, to, &mut s, v, &mut t, w, gap)
 }
 
@@ -191,11 +124,8 @@ fn run_case<R: Read, W: Write>(from: &mut R, to: &mut W) -> io::Result<()> {
 fn main(rt: HostRuntime) -> io::Result<()> {
     let mut from = rt.stdin();
     let mut to = rt.stdout();
-    let n = read_word(&mut from);
-    let mut i = 0u64;
-    while i < n {
+    for _ in 0..read_word(&mut from) {
         run_case(&mut from, &mut to)?;
-        i += 1;
     }
     Ok(())
 }

@@ -22,39 +22,34 @@ fn higher(a: f64, b: f64) -> f64
     if a < b { b } else { a }
 }
 
-// The least of two; a NaN is skipped, as by Rust's `f64::min`.
+// The least of two; a NaN is skipped, as by Rust's `f64::min`, which leaves the sign of a zero open.
+#[tactic(auto, using(crate::proofs::Picks::lower_is, crate::proofs::Picks::second_least))]
 pub fn min(a: f64, b: f64) -> f64
     ensures { result ≡ least a b }
 {
     let low = lower(a, b);
-    if a == a {
-        return low;
-    }
-    b
+    if a == a { low } else { b }
 }
 
-// The greatest of two; a NaN is skipped, as by Rust's `f64::max`.
+// The greatest of two; a NaN is skipped, as by Rust's `f64::max`, which leaves the sign of a zero open.
+#[tactic(auto, using(crate::proofs::Picks::higher_is, crate::proofs::Picks::second_greatest))]
 pub fn max(a: f64, b: f64) -> f64
     ensures { result ≡ greatest a b }
 {
     let high = higher(a, b);
-    if a == a {
-        return high;
-    }
-    b
+    if a == a { high } else { b }
 }
 
 // Whether x lies from lo to hi, ends included; a NaN does not.
+#[tactic(auto, unfolding(crate::specs::Floats::within))]
 pub fn is_within(lo: f64, hi: f64, x: f64) -> bool
     ensures { result ≡ within lo hi x }
 {
-    if lo <= x {
-        return x <= hi;
-    }
-    false
+    lo <= x && x <= hi
 }
 
 // The middle of a range, and the mean of neighbours in a net.
+#[tactic(auto, unfolding(crate::specs::Floats::middle))]
 pub fn mean(a: f64, b: f64) -> f64
     ensures { result ≡ middle a b }
 {
@@ -130,6 +125,7 @@ pub fn sub(a: Vector3D, b: Vector3D) -> Vector3D
     }
 }
 
+#[tactic(auto, unfolding(crate::specs::Vectors::dot_of))]
 pub fn dot(a: Vector3D, b: Vector3D) -> f64
     ensures { result ≡ dot_of a b }
 {
@@ -146,6 +142,7 @@ pub fn cross(a: Vector3D, b: Vector3D) -> Vector3D
     }
 }
 
+#[tactic(auto, unfolding(crate::specs::Vectors::norm_of))]
 pub fn norm(a: Vector3D) -> f64
     ensures { result ≡ norm_of a }
 {
@@ -174,6 +171,7 @@ fn root_within(x: f64, reach: f64) -> bool
 }
 
 // Whether a is no longer than the reach.
+#[tactic(auto, unfolding(crate::specs::Vectors::norm_of))]
 pub fn norm_within(a: Vector3D, reach: f64) -> bool
     ensures { result ≡ le (norm_of a) reach }
 {

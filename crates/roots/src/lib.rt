@@ -54,11 +54,9 @@ fn digits(m: u64) -> Root
 {
     let mut r = Root { root: 0, rem: 0 };
     let mut top = m * 1024;
-    let mut i = 0usize;
-    while i < 53 {
+    for _ in 0..53usize {
         r = digit(r, top / 0x4000_0000_0000_0000);
         top = top % 0x4000_0000_0000_0000 * 4;
-        i += 1;
     }
     r
 }
@@ -95,7 +93,7 @@ fn guess(b: u64) -> f64
 // A guess at the root of a number from 0 up to 10^300, good to one part in 500 from 2^−1022 on; of any other number 0. Nothing rests on it: a caller tests it.
 pub fn rough_sqrt(x: f64) -> f64 {
     if x < 1.0e300 {
-        let b = f64::to_bits(x);
+        let b = x.to_bits();
         if b < INFINITY {
             return x * newton(f64::from_bits(0x5fe6_eb50_c7b5_37a9 - b / 2), 0.5 * x);
         }
@@ -110,7 +108,7 @@ fn guess_digits(b: u64) -> u64
 {
     let s = guess(b);
     if s >= 1.0 && s < 2.0 {
-        return f64::to_bits(s) % LEADING + LEADING;
+        return s.to_bits() % LEADING + LEADING;
     }
     LEADING
 }
@@ -277,15 +275,15 @@ fn root_bits(b: u64) -> u64
 pub fn sqrt(x: f64) -> f64
     ensures { result ≡ root_of x }
 {
-    if x != x {
+    if x.is_nan() {
         return x;
     }
-    let b = f64::to_bits(x);
+    let b = x.to_bits();
     if b % SIGN == 0 {
         return x;
     }
     if b >= SIGN {
-        return 0.0 / 0.0;
+        return f64::NAN;
     }
     if b >= INFINITY {
         return x;

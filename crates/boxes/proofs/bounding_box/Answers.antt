@@ -1,25 +1,11 @@
--- `bounding_box` is bounding_box: the points before place i are in the box. Assumes nothing.
-use mathlib.Core.Path.{ap, ◌∙◌}
-use mathlib.Core.List.{foldl}
-use Prim.Native.Nat.{◌-◌}
-use native.Mathlib.Omega.{arith}
-use lib.Ieee.{neg}
-use Rattle.boxes.specs.Points.{vectors}
-use Rattle.boxes.specs.Boxes.{grown, bounding_box}
-use Rattle.boxes.proofs.Laws.{fold_on, fold_end}
-use borrow.Author.Rules.{rules}
+-- `bounding_box` is bounding_box: the chunks are the points. Assumes nothing.
+use Rattle.std.proofs.Common.{rules, tests}
+use Rattle.std.proofs.lemmas.Iterator.Consumers.{fold_from_yields_List}
+use Rattle.boxes.specs.Boxes.{grown}
+use Rattle.boxes.proofs.Laws.{points_of_chunks, box_by_fold}
 use Rattle.boxes.proofs.bounding_box.Goals as goal
 
-pub loop-i-init : goal.loop-i-init
-unfolding bounding_box neg
-loop-i-init c = let points = c.args.points.now in
-    (search rules, ap (λ b. foldl grown b (vectors points)) (c.cube-b.ensures ∙ simp (c.infinity.ensures, c.infinity-2.ensures)))
-
-pub loop-i-preserved : goal.loop-i-preserved
-loop-i-preserved c = let l = c.loop-i in
-    let points = c.args.points.now in
-    (search rules, fold_on grown l.b c.grow-b.result points l.i (omega arith) (c.grow-b.ensures ∙ ap (grown l.b) c.point_at.ensures) ∙ l.invariant.1)
-
 pub returns : goal.returns
-returns c = let l = c.loop-i in
-    fold_end grown l.b _ c.args.points.now l.i (search rules) l.invariant.1
+returns c = let l = c.args.points.now in
+    box_by_fold l c.cube.result _ c.cube.ensures
+    (fold_from_yields_List _ grown _ _ c.fold.ensures.ran (points_of_chunks l c.chunks_exact.ensures.rest c.chunks_exact.ensures.size) (λ a x b q k. search (rules, tests)))

@@ -1,33 +1,15 @@
--- `near_line` is near_line: the points before place i are near. Assumes nothing.
-use mathlib.Core.Path.{refl, sym, ap, ◌∙◌}
-use Prim.Native.Nat.{◌-◌}
-use native.Mathlib.Omega.{arith}
-use borrow.Author.Tests.{not-true, not-false}
+-- `near_line` is near_line: the chunks are the points. Assumes nothing.
+use mathlib.Core.Path.{sym, ◌∙◌}
+use Rattle.std.proofs.Common.{rules, tests}
+use Rattle.std.proofs.lemmas.Iterator.Search.{all_from_yields_List}
+use Rattle.lists.proofs.Tests.{every_is_all}
+use Rattle.boxes.specs.Points.{vectors}
+use Rattle.boxes.proofs.Laws.{points_of_chunks}
 use Rattle.clearing.specs.Lines.{is_near}
-use Rattle.clearing.proofs.Laws.{every_point_on, every_point_stop, every_point_end}
-use borrow.Author.Rules.{rules}
 use Rattle.clearing.proofs.near_line.Goals as goal
 
-pub loop-i-init : goal.loop-i-init
-loop-i-init c = (search rules, refl)
-
-pub returns-then-not-is_near : goal.returns-then-not-is_near
-returns-then-not-is_near c = let l = c.loop-i in
-    let a = c.args in
-    let t = is_near a.origin a.axis a.reach in
-    every_point_stop t a.points.now l.i _ (omega arith)
-    (sym (ap t c.point_at.ensures) ∙ sym c.is_near.ensures ∙ not-true _ c.if-not-is_near.true-raw) l.invariant.1
-
-pub loop-i-preserved : goal.loop-i-preserved
-loop-i-preserved c = let l = c.loop-i in
-    let a = c.args in
-    let t = is_near a.origin a.axis a.reach in (
-      search rules,
-      every_point_on t a.points.now l.i (omega arith)
-          (sym (ap t c.point_at.ensures) ∙ sym c.is_near.ensures ∙ not-false _ c.if-not-is_near.false-raw) ∙ l.invariant.1,
-    )
-
 pub returns : goal.returns
-returns c = let l = c.loop-i in
-    let a = c.args in
-    every_point_end (is_near a.origin a.axis a.reach) a.points.now l.i _ (search rules) l.invariant.1
+returns c = let a = c.args in
+    let t = is_near a.origin a.axis a.reach in
+    all_from_yields_List t _ _ _ c.all.ensures.ran (points_of_chunks a.points.now c.chunks_exact.ensures.rest c.chunks_exact.ensures.size) (λ x b q k. search (rules, tests))
+    ∙ sym (every_is_all t (vectors a.points.now))

@@ -1,10 +1,10 @@
 -- The float of any pattern, a NaN's or another. Assumes nothing.
-use lib.Ieee.{div, of_bits}
+use lib.Ieee.{of_bits}
 use Rattle.patterns.proofs.Laws.{above_is_nan, not_above}
 use Rattle.patterns.proofs.float.Goals as goal
 
 pub returns-then-n-gt9218868437227405312 : goal.returns-then-n-gt9218868437227405312
-unfolding div of_bits
+unfolding of_bits
 returns-then-n-gt9218868437227405312 c = above_is_nan c.args.n c.if-n-gt9218868437227405312.true
 
 pub float_from_bits-result : goal.float_from_bits-result

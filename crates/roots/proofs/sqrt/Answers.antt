@@ -1,25 +1,20 @@
 -- `sqrt` is the root of every double: each pattern that has no digits to take the root of by a law of its own. Assumes nothing.
-use mathlib.Core.Path.{sym, subst, ◌∙◌}
-use lib.Dec.{T}
-use lib.Ieee.{div, of_bits, binary64}
-use lib.Ieee.Compare.{differs_from_itself}
+use mathlib.Core.Path.{sym, ◌∙◌}
+use lib.Ieee.{of_bits, binary64}
 use Rattle.roots.proofs.Edges.{nan_same, zero_same, below_nan, inf_same, of_pattern}
 use native.Mathlib.Omega.{arith}
-use Rattle.roots.proofs.Laws.{same_not_nan, not_above}
+use Rattle.roots.proofs.Laws.{from_is_nan, not_above}
 use borrow.Author.Rules.{rules}
 use Rattle.roots.proofs.sqrt.Goals as goal
 
-pub returns-then-x : goal.returns-then-x
-returns-then-x c = nan_same binary64 c.args.x (differs_from_itself c.args.x (subst T (sym c.if-x.true) tt))
-
-pub float_to_bits-b : goal.float_to_bits-b
-float_to_bits-b c = same_not_nan c.args.x c.if-x.false
+pub returns-then-is_nan : goal.returns-then-is_nan
+returns-then-is_nan c = nan_same binary64 c.args.x (from_is_nan c.args.x (sym c.is_nan.ensures.value ∙ c.if-is_nan.true))
 
 pub returns-then-b-eq0 : goal.returns-then-b-eq0
 returns-then-b-eq0 c = zero_same binary64 c.args.x (search rules) c.if-b-eq0.true
 
 pub returns-then-b-ge-SIGN : goal.returns-then-b-ge-SIGN
-unfolding div of_bits
+unfolding of_bits
 returns-then-b-ge-SIGN c = below_nan binary64 c.args.x (search rules) c.if-b-eq0.false c.if-b-ge-SIGN.true
 
 pub returns-then-b-ge-INFINITY : goal.returns-then-b-ge-INFINITY

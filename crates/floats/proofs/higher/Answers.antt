@@ -1,8 +1,0 @@
--- `higher`: one case a return. Assumes nothing.
-use Rattle.floats.proofs.higher.Goals as goal
-
-pub returns-then-a-b : goal.returns-then-a-b
-returns-then-a-b c = simp c.if-a-b.true
-
-pub returns-else-a-b : goal.returns-else-a-b
-returns-else-a-b c = simp c.if-a-b.false
