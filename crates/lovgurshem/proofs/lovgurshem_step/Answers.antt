@@ -31,7 +31,7 @@ returns c = let b =
     let args = b.args in record {
       fact = step_is args.state.now (memory args.nets1.now args.nets2.now args.ranges.now args.depths.now args.raw.now)
           args.verdict (sym b.is_state.ensures ∙ not-false _ b.if-not-is_state.false-raw)
-          b.read_state-st.ensures b.verdict_of.ensures
+          b.read_state-st.ensures b.from.ensures
           c.step-s.ensures
           c.put_next.ensures.value.0 c.put_next.ensures.value.1;
       state_unchanged = stays _ (sym b.is_state.ensures ∙ not-false _ b.if-not-is_state.false-raw)
