@@ -1,9 +1,15 @@
 -- The Bezier points of a knot span (`bezier_matrix`, `span_bezier`): the triangular recurrence of The NURBS Book, carried out on the poles' coefficients. Definitions only.
-use Rattle.std.specs.Prelude.{ℕ, zero, suc, ◌+◌, ◌-◌, ◌*◌, cond, List, [], ◌∷◌, ltb, eqb, get_or, Float}
+use Rattle.std.specs.Prelude.{ℕ, zero, suc, ◌+◌, ◌-◌, ◌*◌, ◌≤◌, cond, List, [], ◌∷◌, ltb, eqb, get_or, length, Float}
 use Rattle.std.specs.Float.{binary64, nan}
 use Rattle.std.specs.Float.Ieee.{add, sub, mul, div, neg}
 use Rattle.floats.specs.Floats.{zero64, one64}
 use Rattle.points.specs.declared.Point4D.{Point4D}
+
+-- a degree from 1 to 25, and the 2 p knots around a span
+pub record HasNear (p : ℕ) (near : List Float) : Type 0 where
+  pub low : 1 ≤ p
+  pub high : p ≤ 25
+  pub around : 2 * p ≤ length near
 
 -- one blend of `bezier_matrix`, (1 − α) × a + α × b: Q_i = α_i P_i + (1 − α_i) P_(i−1) of knot insertion (The NURBS Book, chapter 5), in the Rust's order of operations
 unfoldable pub mix_of : Float → Float → Float → Float

@@ -124,6 +124,7 @@ fn in_measure(points: &[f64]) -> bool
 }
 
 // Room for the points of a net of up to 26.
+// A function, and no literal at each place: `room` is what the contracts of three crates say of it.
 #[tactic(auto, unfolding(crate::specs::Nets::room))]
 pub fn scratch() -> [f64; 78]
     ensures { (result ≡ room) × (length result ≡ 78) }
@@ -131,7 +132,7 @@ pub fn scratch() -> [f64; 78]
     [0.0; 78]
 }
 
-// The points of a net go to the start of out; of a net out of measure none of them count.
+// The points of a net go to the start of out, and how many numbers of it count is the result: 0 for a net out of measure, as none of them count.
 pub fn measure(net: &[f64], out: &mut [f64]) -> usize
     requires { length out.old ≡ 78 }
     ensures value { (result ≡ length (measured net.now)) × (result ≤ 78) }

@@ -1,18 +1,15 @@
 -- A list of calls after an opening, with steps, own verdicts, reports and each refusal, by the definitions alone. Definitions only.
-use Rattle.std.specs.Prelude.{◌≡◌, List, [], ◌∷◌, map, ℕ, replicate, Float}
+use Rattle.std.specs.Prelude.{◌≡◌, List, [], ◌∷◌, map, ℕ, replicate, Float, Result, Ok, Err}
 use Rattle.floats.specs.Floats.{zero64, one64, half64}
 use Rattle.verdicts.specs.declared.Test.TheVariants.{Box, Line}
 use Rattle.verdicts.specs.declared.Verdict.TheVariants.{Settled, Split, Unseparated}
 use Rattle.verdicts.specs.Verdicts.{verdict_number}
 use Rattle.regions.specs.Reports.{word_number}
-use Rattle.states.specs.States.{Memory, Sizes}
-use Rattle.search.specs.declared.Stepped.TheVariants.{Next, Ended, NoRoom}
-use Rattle.search.specs.declared.Own.TheVariants.{Is, Ended as OwnEnded, NoRoom as OwnNoRoom}
+use Rattle.states.specs.declared.State.{State}
+use Rattle.states.specs.States.{Memory, Sizes, step_error_number}
 use Rattle.nodes.specs.Nets.{geometry}
-use Rattle.report.specs.declared.Reported.TheVariants.{Told, Running, NoRoom as ReportNoRoom}
-use Rattle.report.specs.Reports.{output}
-use Rattle.opening.specs.declared.Opened.{Opened}
-use Rattle.opening.specs.declared.Opened.TheVariants.{Open, BadLine, BadDatum, BadQuestion, NoRoom as OpenNoRoom}
+use Rattle.report.specs.Reports.{output, report_error_number}
+use Rattle.opening.specs.declared.OpenError.{OpenError}
 use Rattle.opening.specs.Opens.{open_def}
 use Rattle.coverage.specs.Calls.{Call, step, own, report, Answer, stepped, judged, reported, run_all}
 use Rattle.cases.specs.Cases.{two64, three64, line_a, straight, question, room}
@@ -29,15 +26,13 @@ short_depths = record { nets1 = 520; nets2 = 520; ranges = 260; depths = 129; ra
 
 -- an answer in numbers: a refusal's; of a step visits, splits, settled, of these by box, plane and line, given, waiting and the allowance unspent; the verdict's; of a report the word's, the counts and how many regions
 abbrev pub said : Answer → List ℕ
-said (stepped (Next x)) = x.tally.visits ∷ x.tally.splits ∷ x.tally.settled ∷ x.tally.boxes ∷ x.tally.planes ∷ x.tally.lines ∷ x.tally.given ∷ x.tally.waiting ∷ x.tally.unspent ∷ []
-said (stepped Ended) = 20 ∷ []
-said (stepped NoRoom) = 19 ∷ []
-said (judged (Is v)) = verdict_number v ∷ []
-said (judged OwnEnded) = 20 ∷ []
-said (judged OwnNoRoom) = 19 ∷ []
-said (reported (Told w c n) o) = word_number w ∷ c.pairs ∷ c.visits ∷ c.splits ∷ c.settled ∷ c.boxes ∷ c.planes ∷ c.lines ∷ c.given ∷ c.left ∷ n ∷ []
-said (reported Running o) = 21 ∷ []
-said (reported ReportNoRoom o) = 19 ∷ []
+said (stepped (Ok x)) = x.tally.visits ∷ x.tally.splits ∷ x.tally.settled ∷ x.tally.boxes ∷ x.tally.planes ∷ x.tally.lines ∷ x.tally.given ∷ x.tally.waiting ∷ x.tally.unspent ∷ []
+said (stepped (Err e)) = step_error_number e ∷ []
+said (judged (Ok v)) = verdict_number v ∷ []
+said (judged (Err e)) = step_error_number e ∷ []
+said (reported (Ok r) o) =
+    let c = r.counts in word_number r.word ∷ c.pairs ∷ c.visits ∷ c.splits ∷ c.settled ∷ c.boxes ∷ c.planes ∷ c.lines ∷ c.given ∷ c.left ∷ r.regions ∷ []
+said (reported (Err e) o) = report_error_number e ∷ []
 
 -- a report's slice
 abbrev pub slice_of : Answer → List Float
@@ -76,12 +71,9 @@ askings =
     ∷ asking (report whole (output (replicate 20 two64) (replicate 2 7))) (1 ∷ 1 ∷ 3 ∷ 1 ∷ 0 ∷ 0 ∷ 0 ∷ 0 ∷ 1 ∷ 1 ∷ 1 ∷ [])
     ∷ []
 
-abbrev pub answered : List Asking → Opened → Memory → List Answer
-answered l (Open x) u = (run_all geometry (map (λ (a : Asking). a.call) l) x u).answers
-answered l (BadLine line a) u = []
-answered l BadDatum u = []
-answered l (BadQuestion a) u = []
-answered l OpenNoRoom u = []
+abbrev pub answered : List Asking → Result State OpenError → Memory → List Answer
+answered l (Ok x) u = (run_all geometry (map (λ (a : Asking). a.call) l) x u).answers
+answered l (Err e) u = []
 
 -- A with (0,2,0) to (2,0,0), gap 0, S 1
 abbrev pub answers : List Answer

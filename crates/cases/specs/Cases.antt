@@ -1,6 +1,6 @@
 -- Document 01's starred lines as one list of cases: roots, the pieces of a line, and whole searches (the opening, the loop with the own verdicts, the report, in as much memory
 -- as they need). A second list has nets with the Rust's bits and the bounds of a line with free ends; last, searches with several pieces. Definitions only.
-use Rattle.std.specs.Prelude.{◌≡◌, Bool, true, false, List, [], ◌∷◌, map, ℕ, suc, ◌*◌, replicate, take, Float}
+use Rattle.std.specs.Prelude.{◌≡◌, Bool, true, false, List, [], ◌∷◌, map, ℕ, suc, ◌*◌, replicate, take, Float, Result, Ok, Err}
 use Rattle.std.specs.Float.{binary64}
 use Rattle.std.specs.Float.Ieee.{of_bits, to_bits}
 use Rattle.roots.specs.Root.{root_of}
@@ -9,18 +9,17 @@ use Rattle.regions.specs.Reports.{word_number}
 use Rattle.lines.specs.Lines.{Line, Question, with_datum}
 use Rattle.curves.specs.Curves.{pieces_of}
 use Rattle.facts.specs.Faults.{asked_place}
-use Rattle.states.specs.States.{Memory, memory}
-use Rattle.search.specs.declared.Stepped.{Stepped}
-use Rattle.search.specs.declared.Stepped.TheVariants.{Next, Ended, NoRoom}
+use Rattle.states.specs.declared.State.{State}
+use Rattle.states.specs.declared.StepError.{StepError}
+use Rattle.states.specs.States.{Memory, memory, step_error_number}
 use Rattle.nodes.specs.Nets.{geometry}
 use Rattle.search.specs.Runs.{run_def}
 use Rattle.questions.specs.Questions.{whole_turn}
-use Rattle.report.specs.declared.Reported.{Reported}
-use Rattle.report.specs.declared.Reported.TheVariants.{Told, Running, NoRoom as ReportNoRoom}
-use Rattle.report.specs.Reports.{Output, output, report_def}
-use Rattle.opening.specs.declared.Opened.{Opened}
-use Rattle.opening.specs.declared.Opened.TheVariants.{Open, BadLine, BadDatum, BadQuestion, NoRoom as OpenNoRoom}
-use Rattle.opening.specs.Opens.{open_def, opened_number}
+use Rattle.report.specs.declared.Summary.{Summary}
+use Rattle.report.specs.declared.ReportError.{ReportError}
+use Rattle.report.specs.Reports.{Output, output, report_error_number, report_def}
+use Rattle.opening.specs.declared.OpenError.{OpenError}
+use Rattle.opening.specs.Opens.{open_error_number, open_def}
 
 -- 2, 3, 4, 4.5, 5, 6, 7, 9, 10 and 12
 abbrev pub two64 : Float
@@ -76,29 +75,25 @@ pub record Answer : Type 0 where
 abbrev pub refused : ℕ → Answer
 refused n = record { word = n; counts = []; regions = []; marks = []; left = [] }
 
-abbrev pub told : Reported → Output → List Float → Answer
-told (Told w c n) o ranges =
+abbrev pub told : Result Summary ReportError → Output → List Float → Answer
+told (Ok r) o ranges =
+    let c = r.counts in
     record {
-      word = word_number w;
+      word = word_number r.word;
       counts = c.pairs ∷ c.visits ∷ c.splits ∷ c.settled ∷ c.boxes ∷ c.planes ∷ c.lines ∷ c.given ∷ c.left ∷ c.unspent ∷ [];
-      regions = take (n * 10) o.regions;
-      marks = take n o.marks;
+      regions = take (r.regions * 10) o.regions;
+      marks = take r.regions o.marks;
       left = take (c.left * 4) ranges;
     }
-told Running o ranges = refused 21
-told ReportNoRoom o ranges = refused 19
+told (Err e) o ranges = refused (report_error_number e)
 
-abbrev pub reported_of : ℕ → Stepped → Memory → Answer
-reported_of splits (Next x) u = let r = report_def geometry x u (output (replicate (suc splits * 10) zero64) (replicate (suc splits) 0)) in told r.answer r.output r.memory.ranges
-reported_of splits Ended u = refused 20
-reported_of splits NoRoom u = refused 19
+abbrev pub reported_of : ℕ → Result State StepError → Memory → Answer
+reported_of splits (Ok x) u = let r = report_def geometry x u (output (replicate (suc splits * 10) zero64) (replicate (suc splits) 0)) in told r.answer r.output r.memory.ranges
+reported_of splits (Err e) u = refused (step_error_number e)
 
-abbrev pub ran_from : ℕ → Opened → Memory → Answer
-ran_from splits (Open x) u = let o = run_def geometry x u in reported_of splits o.answer o.memory
-ran_from splits (BadLine line a) u = refused (opened_number (BadLine line a))
-ran_from splits BadDatum u = refused (opened_number BadDatum)
-ran_from splits (BadQuestion a) u = refused (opened_number (BadQuestion a))
-ran_from splits OpenNoRoom u = refused 19
+abbrev pub ran_from : ℕ → Result State OpenError → Memory → Answer
+ran_from splits (Ok x) u = let o = run_def geometry x u in reported_of splits o.answer o.memory
+ran_from splits (Err e) u = refused (open_error_number e)
 
 abbrev pub search : Question → Answer
 search q = let o = open_def q (replicate 8 zero64) (replicate 8 zero64) (room q.splits) in ran_from q.splits o.answer o.memory

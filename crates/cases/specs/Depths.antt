@@ -1,12 +1,11 @@
 -- Which line of a node a Split halves, by its depths and boxes (document 02, M-106: "The cases at 63 and 64 become 31 and 32 on both lines"). Definitions only.
-use Rattle.std.specs.Prelude.{◌≡◌, false, List, [], ◌∷◌, ◌++◌, ℕ, replicate, take, Float}
+use Rattle.std.specs.Prelude.{◌≡◌, false, List, [], ◌∷◌, ◌++◌, ℕ, replicate, take, Float, Result, Ok, Err}
 use Rattle.lists.specs.Members.{All}
 use Rattle.verdicts.specs.declared.Verdict.TheVariants.{Split}
 use Rattle.states.specs.declared.State.{State}
 use Rattle.states.specs.States.{Memory, memory}
 use Rattle.nodes.specs.Nets.{geometry}
-use Rattle.search.specs.declared.Stepped.{Stepped}
-use Rattle.search.specs.declared.Stepped.TheVariants.{Next, Ended, NoRoom}
+use Rattle.states.specs.declared.StepError.{StepError}
 use Rattle.search.specs.Steps.{step_def}
 use Rattle.floats.specs.Floats.{zero64, one64}
 use Rattle.cases.specs.Cases.{two64}
@@ -56,10 +55,9 @@ memory_for d =
     memory (net_for d.length1 ++ replicate 512 zero64) (net_for d.length2 ++ replicate 512 zero64) (replicate 260 zero64)
     (d.first ∷ d.second ∷ replicate 128 0) (replicate 20 zero64)
 
-abbrev pub counts_in : Stepped → List ℕ
-counts_in (Next x) = x.tally.waiting ∷ x.tally.splits ∷ x.tally.given ∷ x.tally.unspent ∷ []
-counts_in Ended = []
-counts_in NoRoom = []
+abbrev pub counts_in : Result State StepError → List ℕ
+counts_in (Ok x) = x.tally.waiting ∷ x.tally.splits ∷ x.tally.given ∷ x.tally.unspent ∷ []
+counts_in (Err e) = []
 
 abbrev pub Divides : Divided → Type 0
 Divides d = let o = step_def geometry (state_for d) (memory_for d) Split in (counts_in o.answer ≡ d.after) × (take 4 o.memory.depths ≡ d.depths)

@@ -6,9 +6,9 @@ use Rattle.floats.specs.Floats.{zero64}
 use Rattle.verdicts.specs.declared.Test.TheVariants.{Box}
 use Rattle.verdicts.specs.declared.Verdict.TheVariants.{Settled}
 use Rattle.states.specs.declared.State.{State}
-use Rattle.states.specs.States.{Memory, memory}
+use Rattle.states.specs.States.{Memory, memory, refusal_number, step_error_number}
 use Rattle.nodes.specs.Nets.{geometry}
-use Rattle.search.specs.Steps.{stepped_number, step_def}
+use Rattle.search.specs.Steps.{step_def}
 
 -- the counts of a state with one pair at S 1; the depths of its top node; the number of a step on it, 0 for one that is not refused
 pub record Forged : Type 0 where
@@ -60,7 +60,7 @@ abbrev pub memory_for : Forged → Memory
 memory_for f = memory (replicate 520 zero64) (replicate 520 zero64) (replicate 260 zero64) (joined (replicate 65 (f.first ∷ f.second ∷ []))) (replicate 20 zero64)
 
 abbrev pub Answered : Forged → Type 0
-Answered f = (stepped_number (step_def geometry (state_for f) (memory_for f) (Settled Box)).answer ≡ f.number)
+Answered f = (refusal_number step_error_number (step_def geometry (state_for f) (memory_for f) (Settled Box)).answer ≡ f.number)
 
 abbrev pub forgeries : List Forged
 forgeries =

@@ -9,99 +9,113 @@ use lib.Dec.{ltb, leb, eqb, lit≤}
 use lib.ListN.{length}
 use Rattle.lists.specs.Tests.{each_two}
 use Rattle.floats.specs.Floats.{zero64, within}
-use Rattle.lines.specs.declared.Admission.{Admission}
-use Rattle.lines.specs.declared.Admission.TheVariants.{Admitted, InvalidDegree, KnotCount, KnotOutOfRange, KnotsNotIncreasing, EndMultiplicitiesDiffer, MultiplicityTooLarge, ZeroMultiplicity, PoleCountMismatch, PoleCountOutOfRange, WeightCountMismatch, WeightOutOfRange, CoordinateOutOfRange}
+use Rattle.std.specs.Prelude.{Result, Ok, Err}
+use Rattle.verdicts.specs.declared.Side.TheVariants.{First, Second}
+use Rattle.lines.specs.declared.LineError.{LineError}
 use Rattle.lines.specs.Lines.{Question}
-use Rattle.lines.specs.Admit.{admission_number, admit_of, two24}
+use Rattle.lines.specs.Admit.{line_error_number, admit_of, two24}
 use Rattle.lines.specs.Data.{one_datum}
 use Rattle.knots.specs.Knots.{bounds_of, breaks_of}
-use Rattle.questions.specs.declared.Asked.{Asked as AskAnswer}
-use Rattle.questions.specs.declared.Asked.TheVariants.{Fine, RangeOutOfBounds, GapOutOfRange, TooManySplits, BreaksTooClose}
+use Rattle.questions.specs.declared.QuestionError.{QuestionError}
+use Rattle.questions.specs.declared.QuestionError.TheVariants.{RangeOutOfBounds, GapOutOfRange, TooManySplits, BreaksTooClose}
 use Rattle.questions.specs.Questions.{range_fits, parted, ask_within, ask_of}
 use Rattle.states.specs.declared.State.{State}
-use Rattle.states.specs.States.{sizes, needed, enough}
-use Rattle.opening.specs.declared.Opened.{Opened}
-use Rattle.opening.specs.declared.Opened.TheVariants.{Open, BadLine, BadDatum, BadQuestion, NoRoom}
+use Rattle.states.specs.States.{sizes, needed, enough, refusal_number}
+use Rattle.opening.specs.declared.OpenError.{OpenError}
+use Rattle.opening.specs.declared.OpenError.TheVariants.{BadLine, BadDatum, BadQuestion, NoRoom}
 use Rattle.opening.specs.Asked.{start, state_of, open_memory}
-use Rattle.opening.specs.Opens.{search_for, is_admitted, is_fine, opened_number, opened_line, pieces_fit, pieces_in, Pushing, pushing, Opening, opening}
+use Rattle.opening.specs.Opens.{search_for, refused_or, opened_number, opened_line, pieces_fit, pieces_in, Pushing, pushing, Opening, opening}
+use Rattle.opening.proofs.Numbers.{not_none, bad_line}
 use Rattle.walks.specs.Sheets.{ChartLine, Chart}
 use Rattle.sheet.specs.Answers.{zeros, lent, opened_on}
 use Rattle.charts.specs.Charts.{Tested, tested, first_met, pair_for, count_number, line_number, datum_number, range_number, gap_number, splits_number, breaks_number, room_number, Row, of_count, of_line, of_datum, of_range, of_gap, of_splits, of_breaks, of_room, each_line as each_row, test_of, tests}
 use Rattle.charts.specs.Found.{place_of, opened_at, rank_of, earlier_of, lines_met, chart_met}
+use Rattle.charts.proofs.Laws.{rank_none, rank_line}
 use Rattle.charts.proofs.Rows.{met, first_append, passed, Found, sooner, row, rows, column, in_line, soonest, rows_soonest}
 
 -- ---- the opening of a pair, by its tests
+abbrev pub opens : State → Result Unit LineError → Result Unit LineError → Bool → Result Unit QuestionError → Bool → Bool → Result State OpenError
+opens x a b n k d e =
+    refused_or a (λ f. Err (BadLine First f))
+    (refused_or b (λ f. Err (BadLine Second f))
+    (cond n (refused_or k (λ f. Err (BadQuestion f)) (cond d (cond e (Ok x) (Err NoRoom)) (Err NoRoom))) (Err BadDatum)))
+
 module _ (q : Question) where
   abbrev x : State
   x = state_of (search_for q) (start (search_for q))
 
-  abbrev by_tests : Bool → Bool → Bool → AskAnswer → Bool → Bool → Opened
-  by_tests a b n k d e =
-      cond a (cond b (cond n (cond (is_fine k) (cond d (cond e (Open x) NoRoom) NoRoom) (BadQuestion k)) BadDatum) (BadLine 2 (admit_of q.line2))) (BadLine 1 (admit_of q.line1))
-
   abbrev pushes : Bool → Opening
   pushes e =
-      let o = cond {A = Pushing} e (pushing (Open x) (open_memory (search_for q) lent)) (pushing NoRoom lent) in
+      let o = cond {A = Pushing} e (pushing (Ok x) (open_memory (search_for q) lent)) (pushing (Err NoRoom) lent) in
       opening o.answer (pieces_in q.line1 q.lo1 q.hi1 (zeros 8112)) (pieces_in q.line2 q.lo2 q.hi2 (zeros 8112)) o.memory
 
   pub opened_by_lem : opened_on q
-      ≡ by_tests (is_admitted (admit_of q.line1)) (is_admitted (admit_of q.line2)) (one_datum q.line1.datum q.line2.datum) (ask_of q)
-      (pieces_fit q (zeros 8112) (zeros 8112)) (enough (needed x) (sizes lent))
+      ≡ opens x (admit_of q.line1) (admit_of q.line2) (one_datum q.line1.datum q.line2.datum) (ask_of q) (pieces_fit q (zeros 8112) (zeros 8112)) (enough (needed x) (sizes lent))
   unfolding opened_on
   opened_by_lem =
-      go (is_admitted (admit_of q.line1)) (is_admitted (admit_of q.line2)) (one_datum q.line1.datum q.line2.datum) (is_fine (ask_of q))
-      (pieces_fit q (zeros 8112) (zeros 8112)) (enough (needed x) (sizes lent))
+      go (admit_of q.line1) (admit_of q.line2) (one_datum q.line1.datum q.line2.datum) (ask_of q) (pieces_fit q (zeros 8112) (zeros 8112)) (enough (needed x) (sizes lent))
     where
-      go : (a b n k d e : Bool)
-          → (cond {A = Opening} a (cond b (cond n (cond k (cond d (pushes e) (opening NoRoom (zeros 8112) (zeros 8112) lent)) (opening (BadQuestion (ask_of q)) (zeros 8112) (zeros 8112) lent))
-          (opening BadDatum (zeros 8112) (zeros 8112) lent)) (opening (BadLine 2 (admit_of q.line2)) (zeros 8112) (zeros 8112) lent))
-          (opening (BadLine 1 (admit_of q.line1)) (zeros 8112) (zeros 8112) lent)).answer
-          ≡ cond a (cond b (cond n (cond k (cond d (cond e (Open x) NoRoom) NoRoom) (BadQuestion (ask_of q))) BadDatum) (BadLine 2 (admit_of q.line2))) (BadLine 1 (admit_of q.line1))
-      go true true true true true true = refl
-      go true true true true true false = refl
-      go true true true true false e = refl
-      go true true true false d e = refl
-      go true true false k d e = refl
-      go true false n k d e = refl
-      go false b n k d e = refl
+      go : (a b : Result Unit LineError) (n : Bool) (k : Result Unit QuestionError) (d e : Bool)
+          → (refused_or {A = Opening} a (λ f. opening (Err (BadLine First f)) (zeros 8112) (zeros 8112) lent)
+          (refused_or b (λ f. opening (Err (BadLine Second f)) (zeros 8112) (zeros 8112) lent)
+          (cond n
+          (refused_or k (λ f. opening (Err (BadQuestion f)) (zeros 8112) (zeros 8112) lent)
+          (cond d (pushes e) (opening (Err NoRoom) (zeros 8112) (zeros 8112) lent)))
+          (opening (Err BadDatum) (zeros 8112) (zeros 8112) lent)))).answer
+          ≡ opens x a b n k d e
+      go (Ok u) (Ok v) true (Ok w) true true = refl
+      go (Ok u) (Ok v) true (Ok w) true false = refl
+      go (Ok u) (Ok v) true (Ok w) false e = refl
+      go (Ok u) (Ok v) true (Err f) d e = refl
+      go (Ok u) (Ok v) false k d e = refl
+      go (Ok u) (Err f) n k d e = refl
+      go (Err f) b n k d e = refl
 
 -- 15 to 18 by their tests
-abbrev asks : Bool → Bool → Bool → Bool → Bool → Bool → AskAnswer
+abbrev asks : Bool → Bool → Bool → Bool → Bool → Bool → Result Unit QuestionError
 asks r1 r2 g s b1 b2 =
-    cond (not r1) (RangeOutOfBounds 1) (cond (not r2) (RangeOutOfBounds 2) (cond (not g) GapOutOfRange (cond s TooManySplits (cond (not b1) (BreaksTooClose 1) (cond (not b2) (BreaksTooClose 2) Fine)))))
+    cond (not r1) (Err (RangeOutOfBounds First))
+    (cond (not r2) (Err (RangeOutOfBounds Second))
+    (cond (not g) (Err GapOutOfRange)
+    (cond s (Err TooManySplits)
+    (cond (not b1) (Err (BreaksTooClose First)) (cond (not b2) (Err (BreaksTooClose Second)) (Ok tt))))))
 
 -- ---- the stages of one line's tests, in the order of all
 either : ℕ → ℕ → ℕ
 either a b = cond (eqb a 0) b a
 
--- the number and place that the opening gives are those of the first stage that is met
-module _ (x : State) (m1 m2 : Admission) (k : ℕ) where
-  abbrev opens : Bool → Bool → Bool → AskAnswer → Bool → Bool → Opened
-  opens a b n ask d e = cond a (cond b (cond n (cond (is_fine ask) (cond d (cond e (Open x) NoRoom) NoRoom) (BadQuestion ask)) BadDatum) (BadLine 2 m2)) (BadLine 1 m1)
+abbrev admitted_number : Result Unit LineError → ℕ
+admitted_number r = refusal_number line_error_number r
 
-  abbrev room_of : Opened → ℕ
+-- no fault of a line has the number 0
+no_fault : (e : LineError) → eqb (line_error_number e) 0 ≡ false
+no_fault e = ne_eqb (line_error_number e) 0 (λ z. not_none (bad_line e) z)
+
+-- the number and place that the opening gives are those of the first stage that is met
+module _ (x : State) (k : ℕ) where
+  abbrev room_of : Result State OpenError → ℕ
   room_of o = cond (eqb (opened_number o) 0) 0 19
 
-  abbrev staged : Bool → Bool → Bool → Bool → Bool → Bool → Bool → Bool → Bool → Opened → List Tested
-  staged a b n r1 r2 g s b1 b2 o =
-      tested (admission_number m1) 1 ∷ tested (either (admission_number m2) (cond n 0 23)) k ∷ tested (cond r1 0 15) 1 ∷ tested (cond r2 0 15) k ∷ tested (cond g 0 16) 0
+  abbrev staged : Result Unit LineError → Result Unit LineError → Bool → Bool → Bool → Bool → Bool → Bool → Bool → Result State OpenError → List Tested
+  staged m1 m2 n r1 r2 g s b1 b2 o =
+      tested (admitted_number m1) 1 ∷ tested (either (admitted_number m2) (cond n 0 23)) k ∷ tested (cond r1 0 15) 1 ∷ tested (cond r2 0 15) k ∷ tested (cond g 0 16) 0
       ∷ tested (cond s 17 0) 0 ∷ tested (cond b1 0 18) 1 ∷ tested (cond b2 0 18) k ∷ tested (room_of o) 0 ∷ []
 
-  by_stages : (a b n r1 r2 g s b1 b2 d e : Bool) → is_admitted m1 ≡ a → is_admitted m2 ≡ b → (o : Opened) → o ≡ opens a b n (asks r1 r2 g s b1 b2) d e
-      → tested (opened_number o) (place_of k (opened_line o)) ≡ first_met (staged a b n r1 r2 g s b1 b2 o)
+  by_stages : (m1 m2 : Result Unit LineError) (n r1 r2 g s b1 b2 d e : Bool) (o : Result State OpenError) → o ≡ opens x m1 m2 n (asks r1 r2 g s b1 b2) d e
+      → tested (opened_number o) (place_of k (opened_line o)) ≡ first_met (staged m1 m2 n r1 r2 g s b1 b2 o)
   unfolding either
-  by_stages false b n r1 r2 g s b1 b2 d e ha hb o eo = rw (eo, ha) refl
-  by_stages true false n r1 r2 g s b1 b2 d e ha hb o eo = rw (eo, ha, hb) (rw hb refl)
-  by_stages true true false r1 r2 g s b1 b2 d e ha hb o eo = rw (eo, ha, hb) refl
-  by_stages true true true false r2 g s b1 b2 d e ha hb o eo = rw (eo, ha, hb) refl
-  by_stages true true true true false g s b1 b2 d e ha hb o eo = rw (eo, ha, hb) refl
-  by_stages true true true true true false s b1 b2 d e ha hb o eo = rw (eo, ha, hb) refl
-  by_stages true true true true true true true b1 b2 d e ha hb o eo = rw (eo, ha, hb) refl
-  by_stages true true true true true true false false b2 d e ha hb o eo = rw (eo, ha, hb) refl
-  by_stages true true true true true true false true false d e ha hb o eo = rw (eo, ha, hb) refl
-  by_stages true true true true true true false true true false e ha hb o eo = rw (eo, ha, hb) refl
-  by_stages true true true true true true false true true true false ha hb o eo = rw (eo, ha, hb) refl
-  by_stages true true true true true true false true true true true ha hb o eo = rw (eo, ha, hb) refl
+  by_stages (Err f) m2 n r1 r2 g s b1 b2 d e o eo = rw (eo, no_fault f) refl
+  by_stages (Ok u) (Err f) n r1 r2 g s b1 b2 d e o eo = rw (eo, no_fault f) (rw (no_fault f) refl)
+  by_stages (Ok u) (Ok v) false r1 r2 g s b1 b2 d e o eo = rw eo refl
+  by_stages (Ok u) (Ok v) true false r2 g s b1 b2 d e o eo = rw eo refl
+  by_stages (Ok u) (Ok v) true true false g s b1 b2 d e o eo = rw eo refl
+  by_stages (Ok u) (Ok v) true true true false s b1 b2 d e o eo = rw eo refl
+  by_stages (Ok u) (Ok v) true true true true true b1 b2 d e o eo = rw eo refl
+  by_stages (Ok u) (Ok v) true true true true false false b2 d e o eo = rw eo refl
+  by_stages (Ok u) (Ok v) true true true true false true false d e o eo = rw eo refl
+  by_stages (Ok u) (Ok v) true true true true false true true false e o eo = rw eo refl
+  by_stages (Ok u) (Ok v) true true true true false true true true false o eo = rw eo refl
+  by_stages (Ok u) (Ok v) true true true true false true true true true o eo = rw eo refl
 
 module _ (c : Chart) where
   stages : List (ChartLine → ℕ → Tested)
@@ -122,31 +136,11 @@ module _ (c : Chart) where
   unfolding stages ask_within
   opened_first l k =
       let q = pair_for c l in
-      by_stages (state_of (search_for q) (start (search_for q))) (admit_of q.line1) (admit_of q.line2) k (is_admitted (admit_of q.line1)) (is_admitted (admit_of q.line2))
+      by_stages (state_of (search_for q) (start (search_for q))) k (admit_of q.line1) (admit_of q.line2)
       (one_datum q.line1.datum q.line2.datum) (range_fits q.line1.closed (bounds_of q.line1) q.lo1 q.hi1)
       (range_fits q.line2.closed (bounds_of q.line2) q.lo2 q.hi2) (within zero64 two24 q.gap) (ltb 256 q.splits)
       (each_two parted (breaks_of q.line1 q.lo1 q.hi1)) (each_two parted (breaks_of q.line2 q.lo2 q.hi2))
-      (pieces_fit q (zeros 8112) (zeros 8112)) (enough (needed (state_of (search_for q) (start (search_for q)))) (sizes lent)) refl refl (opened_on q) (opened_by_lem q)
-
-rank_line : (a : Admission) (k : ℕ) → is_admitted a ≡ false → rank_of (admission_number a) k ≡ cond (eqb k 1) 0 1
-unfolding rank_of
-rank_line Admitted k e = absurd (false≢true (sym e))
-rank_line InvalidDegree k e = refl
-rank_line KnotCount k e = refl
-rank_line KnotOutOfRange k e = refl
-rank_line KnotsNotIncreasing k e = refl
-rank_line EndMultiplicitiesDiffer k e = refl
-rank_line MultiplicityTooLarge k e = refl
-rank_line ZeroMultiplicity k e = refl
-rank_line PoleCountMismatch k e = refl
-rank_line PoleCountOutOfRange k e = refl
-rank_line WeightCountMismatch k e = refl
-rank_line WeightOutOfRange k e = refl
-rank_line CoordinateOutOfRange k e = refl
-
-rank_none : rank_of 0 0 ≡ 9
-unfolding rank_of
-rank_none = refl
+      (pieces_fit q (zeros 8112) (zeros 8112)) (enough (needed (state_of (search_for q) (start (search_for q)))) (sizes lent)) (opened_on q) (opened_by_lem q)
 
 -- two lists of tests of which the same is met first
 record Alike (xs ys : List Tested) : Type 0 where
@@ -157,26 +151,26 @@ both {xs} {xs'} {ys} {ys'} a b =
     record { same = first_append xs ys ∙ (λ i. cond (met (a.same i)) (b.same i) (a.same i)) ∙ sym (first_append xs' ys') }
 
 -- ---- the rank of what one line meets is the number of stages that it passed
-module _ (m1 m2 : Admission) (k : ℕ) (far : eqb k 1 ≡ false) where
-  abbrev line_stages : Bool → Bool → Bool → Bool → Bool → Bool → Bool → ℕ → List Tested
-  line_stages n r1 r2 g s b1 b2 room =
-      tested (admission_number m1) 1 ∷ tested (either (admission_number m2) (cond n 0 23)) k ∷ tested (cond r1 0 15) 1 ∷ tested (cond r2 0 15) k ∷ tested (cond g 0 16) 0
+module _ (k : ℕ) (far : eqb k 1 ≡ false) where
+  abbrev line_stages : Result Unit LineError → Result Unit LineError → Bool → Bool → Bool → Bool → Bool → Bool → Bool → ℕ → List Tested
+  line_stages m1 m2 n r1 r2 g s b1 b2 room =
+      tested (admitted_number m1) 1 ∷ tested (either (admitted_number m2) (cond n 0 23)) k ∷ tested (cond r1 0 15) 1 ∷ tested (cond r2 0 15) k ∷ tested (cond g 0 16) 0
       ∷ tested (cond s 17 0) 0 ∷ tested (cond b1 0 18) 1 ∷ tested (cond b2 0 18) k ∷ tested room 0 ∷ []
 
-  stage_rank : (a b n r1 r2 g s b1 b2 o : Bool) → is_admitted m1 ≡ a → is_admitted m2 ≡ b
-      → let l = line_stages n r1 r2 g s b1 b2 (cond o 0 19) in rank_of (first_met l).number (first_met l).place ≡ passed l
+  stage_rank : (m1 m2 : Result Unit LineError) (n r1 r2 g s b1 b2 o : Bool)
+      → let l = line_stages m1 m2 n r1 r2 g s b1 b2 (cond o 0 19) in rank_of (first_met l).number (first_met l).place ≡ passed l
   unfolding either rank_of
-  stage_rank false b n r1 r2 g s b1 b2 o ha hb = rw ha (rank_line m1 1 ha)
-  stage_rank true false n r1 r2 g s b1 b2 o ha hb = rw (ha, hb) (rw hb (rank_line m2 k hb ∙ rw far refl))
-  stage_rank true true false r1 r2 g s b1 b2 o ha hb = rw (ha, hb) (rw far refl)
-  stage_rank true true true false r2 g s b1 b2 o ha hb = rw (ha, hb) refl
-  stage_rank true true true true false g s b1 b2 o ha hb = rw (ha, hb) (rw far refl)
-  stage_rank true true true true true false s b1 b2 o ha hb = rw (ha, hb) refl
-  stage_rank true true true true true true true b1 b2 o ha hb = rw (ha, hb) refl
-  stage_rank true true true true true true false false b2 o ha hb = rw (ha, hb) refl
-  stage_rank true true true true true true false true false o ha hb = rw (ha, hb) (rw far refl)
-  stage_rank true true true true true true false true true false ha hb = rw (ha, hb) refl
-  stage_rank true true true true true true false true true true ha hb = rw (ha, hb) refl
+  stage_rank (Err f) m2 n r1 r2 g s b1 b2 o = rw (no_fault f) (rank_line f 1)
+  stage_rank (Ok u) (Err f) n r1 r2 g s b1 b2 o = rw (no_fault f) (rw (no_fault f) (rank_line f k ∙ rw far refl))
+  stage_rank (Ok u) (Ok v) false r1 r2 g s b1 b2 o = rw far refl
+  stage_rank (Ok u) (Ok v) true false r2 g s b1 b2 o = refl
+  stage_rank (Ok u) (Ok v) true true false g s b1 b2 o = rw far refl
+  stage_rank (Ok u) (Ok v) true true true false s b1 b2 o = refl
+  stage_rank (Ok u) (Ok v) true true true true true b1 b2 o = refl
+  stage_rank (Ok u) (Ok v) true true true true false false b2 o = refl
+  stage_rank (Ok u) (Ok v) true true true true false true false o = rw far refl
+  stage_rank (Ok u) (Ok v) true true true true false true true false = refl
+  stage_rank (Ok u) (Ok v) true true true true false true true true = refl
 
 abbrev rank_in : Tested → ℕ
 rank_in t = rank_of t.number t.place
@@ -185,16 +179,16 @@ module _ (c : Chart) where
   line_rank : (l : ChartLine) (k : ℕ) → 2 ≤ k → rank_in (first_met (column (stages c) l k)) ≡ passed (column (stages c) l k)
   unfolding stages
   line_rank l k h =
-      stage_rank (admit_of c.track.line) (admit_of l.line) k (ne_eqb k 1 (λ e. absurd (omega arith))) (is_admitted (admit_of c.track.line)) (is_admitted (admit_of l.line))
+      stage_rank k (ne_eqb k 1 (λ e. absurd (omega arith))) (admit_of c.track.line) (admit_of l.line)
       (one_datum c.track.line.datum l.line.datum) (range_fits c.track.line.closed (bounds_of c.track.line) c.track.lo c.track.hi)
       (range_fits l.line.closed (bounds_of l.line) l.lo l.hi) (within zero64 two24 c.gap) (ltb 256 c.splits)
       (each_two parted (breaks_of c.track.line c.track.lo c.track.hi)) (each_two parted (breaks_of l.line l.lo l.hi))
-      (eqb (opened_number (opened_on (pair_for c l))) 0) refl refl
+      (eqb (opened_number (opened_on (pair_for c l))) 0)
 
   -- what the openings find, with the stages that it passed
   lines_soonest : (ls : List ChartLine) (k : ℕ) → 2 ≤ k → (lines_met c ls k ≡ (soonest (stages c) ls k).test) × (rank_in (soonest (stages c) ls k).test ≡ (soonest (stages c) ls k).after)
   unfolding stages
-  lines_soonest [] k h = (refl, rank_none)
+  lines_soonest [] k h = (refl, rank_none 0)
   lines_soonest (l ∷ ls) k h =
       let i = lines_soonest ls (suc k) (omega arith) in
       let r = line_rank l k h in

@@ -41,11 +41,18 @@ module _ (c : Chart) where
       go true false e ts h = absurd (false≢true h)
       go false false e ts h = absurd (false≢true h)
 
+  rest_is : (ls : List ChartLine) (good : Bool) → rest_text c ls good ≡ reports_text c ls ++ last_line (good && all_complete c ls)
+  rest_is ls good = refl
+
   line_text : (l : ChartLine) (ls : List ChartLine) (good : Bool)
       → lines_text (pair_for c l) ++ rest_text c ls (good && lines_complete (pair_for c l)) ≡ rest_text c (l ∷ ls) good
   line_text l ls good =
-      sym (append_assoc (lines_text (pair_for c l)) (reports_text c ls) (last_line (good && (lines_complete (pair_for c l) && all_complete c ls)))
-      ∙ ap (λ (b : Bool). lines_text (pair_for c l) ++ (reports_text c ls ++ last_line b)) (and_assoc good (lines_complete (pair_for c l)) (all_complete c ls)))
+      ap (λ (t : List ℕ). lines_text (pair_for c l) ++ t) (rest_is ls (good && lines_complete (pair_for c l)))
+      ∙ go (lines_text (pair_for c l)) (reports_text c ls) (lines_complete (pair_for c l)) (all_complete c ls)
+      ∙ sym (rest_is (l ∷ ls) good)
+    where
+      go : (text rest : List ℕ) (a b : Bool) → text ++ (rest ++ last_line (good && a && b)) ≡ (text ++ rest) ++ last_line (good && (a && b))
+      go text rest a b = sym (append_assoc text rest (last_line (good && (a && b))) ∙ ap (λ (d : Bool). text ++ (rest ++ last_line d)) (and_assoc good a b))
 
   last_text : (good : Bool) → last_line good ++ [] ≡ rest_text c [] good
   last_text true = refl

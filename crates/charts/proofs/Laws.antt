@@ -1,43 +1,42 @@
 -- Ranks, places, and which of two tests comes first. Assumes nothing.
-use mathlib.Core.Path.{◌≡◌, refl, sym, ap, ◌∙◌}
+use mathlib.Core.Path.{◌≡◌, refl, sym, ap, ◌∙◌, subst}
 use mathlib.Core.Bool.{Bool, true, false, cond}
 use mathlib.Core.List.{List}
 use Prim.Native.Nat.{ℕ, ◌≤◌, ◌<◌}
 use native.Mathlib.Omega.{arith}
 use borrow.Author.Tests.{eq-eqb, ne_eqb, ltb-true, ltb-false, lt-ltb, le-ltb}
 use lib.Dec.{eqb, ltb}
+use Rattle.std.specs.Prelude.{Option, Some, None}
+use Rattle.lines.specs.declared.LineError.{LineError}
+use Rattle.lines.specs.declared.LineError.TheVariants.{InvalidDegree, KnotCount, KnotOutOfRange, KnotsNotIncreasing, EndMultiplicitiesDiffer, MultiplicityTooLarge, ZeroMultiplicity, PoleCountMismatch, PoleCountOutOfRange, WeightCountMismatch, WeightOutOfRange, CoordinateOutOfRange}
+use Rattle.lines.specs.Admit.{line_error_number}
+use Rattle.questions.specs.declared.QuestionError.TheVariants.{RangeOutOfBounds, GapOutOfRange, TooManySplits, BreaksTooClose}
+use Rattle.opening.specs.declared.OpenError.{OpenError}
+use Rattle.opening.specs.declared.OpenError.TheVariants.{BadLine, BadDatum, BadQuestion, NoRoom}
+use Rattle.opening.specs.Opens.{open_error_number}
 use Rattle.texts.specs.Texts.{Wrote}
+use Rattle.charts.specs.declared.Met.{Met}
 use Rattle.charts.specs.Charts.{Tested, tested, last_line}
-use Rattle.charts.specs.Found.{rank_of, earlier_of}
+use Rattle.charts.specs.Found.{rank_of, tested_of, earlier_of}
 
-module _ (n p : ℕ) where
-  pub rank_none : n ≡ 0 → 9 ≡ rank_of n p
-  unfolding rank_of
-  rank_none e = rw e refl
+pub rank_none : (p : ℕ) → rank_of 0 p ≡ 9
+unfolding rank_of
+rank_none p = refl
 
-  pub rank_room : n ≡ 19 → 8 ≡ rank_of n p
-  unfolding rank_of
-  rank_room e = rw e refl
-
-  pub rank_splits : n ≡ 17 → 5 ≡ rank_of n p
-  unfolding rank_of
-  rank_splits e = rw e refl
-
-  pub rank_gap : n ≡ 16 → 4 ≡ rank_of n p
-  unfolding rank_of
-  rank_gap e = rw e refl
-
-  pub rank_breaks : n ≡ 18 → cond (eqb p 1) 6 7 ≡ rank_of n p
-  unfolding rank_of
-  rank_breaks e = rw e refl
-
-  pub rank_range : n ≡ 15 → cond (eqb p 1) 2 3 ≡ rank_of n p
-  unfolding rank_of
-  rank_range e = rw e refl
-
-  pub rank_line : (n ≡ 0 → ⊥) → (n ≡ 19 → ⊥) → (n ≡ 18 → ⊥) → (n ≡ 17 → ⊥) → (n ≡ 16 → ⊥) → (n ≡ 15 → ⊥) → cond (eqb p 1) 0 1 ≡ rank_of n p
-  unfolding rank_of
-  rank_line a b c d e f = simp (ne_eqb n 0 a, ne_eqb n 19 b, ne_eqb n 18 c, ne_eqb n 17 d, ne_eqb n 16 e, ne_eqb n 15 f)
+pub rank_line : (e : LineError) (p : ℕ) → rank_of (line_error_number e) p ≡ cond (eqb p 1) 0 1
+unfolding rank_of
+rank_line InvalidDegree p = refl
+rank_line KnotCount p = refl
+rank_line KnotOutOfRange p = refl
+rank_line KnotsNotIncreasing p = refl
+rank_line EndMultiplicitiesDiffer p = refl
+rank_line MultiplicityTooLarge p = refl
+rank_line ZeroMultiplicity p = refl
+rank_line PoleCountMismatch p = refl
+rank_line PoleCountOutOfRange p = refl
+rank_line WeightCountMismatch p = refl
+rank_line WeightOutOfRange p = refl
+rank_line CoordinateOutOfRange p = refl
 
 -- the first number of two, by the place
 pub at_track : (a b : ℕ) {p r : ℕ} → p ≡ 1 → cond (eqb p 1) a b ≡ r → a ≡ r
@@ -74,7 +73,46 @@ earlier_first a b e f h = sym (ap (λ (t : Bool). cond t b a) (le-ltb (rank_in b
 
 -- nothing met is never earlier
 pub earlier_nothing : (a : Tested) → earlier_of a (tested 0 0) ≡ a
-earlier_nothing a = sym (earlier_first a (tested 0 0) {x = 9} {y = rank_in a} (rank_none 0 0 refl) refl (rank_few a.number a.place))
+earlier_nothing a = sym (earlier_first a (tested 0 0) {x = 9} {y = rank_in a} (sym (rank_none 0)) refl (rank_few a.number a.place))
+
+-- what is met is earlier than nothing
+rank_met : (e : OpenError) (p : ℕ) → rank_of (open_error_number e) p < 9
+unfolding rank_of
+rank_met (BadLine side e) p = subst (λ (n : ℕ). n < 9) (sym (rank_line e p)) (few (eqb p 1))
+  where
+    few : (b : Bool) → cond b 0 1 < 9
+    few true = omega arith
+    few false = omega arith
+rank_met BadDatum p = few (eqb p 1)
+  where
+    few : (b : Bool) → cond b 0 1 < 9
+    few true = omega arith
+    few false = omega arith
+rank_met (BadQuestion (RangeOutOfBounds side)) p = few (eqb p 1)
+  where
+    few : (b : Bool) → cond b 2 3 < 9
+    few true = omega arith
+    few false = omega arith
+rank_met (BadQuestion (BreaksTooClose side)) p = few (eqb p 1)
+  where
+    few : (b : Bool) → cond b 6 7 < 9
+    few true = omega arith
+    few false = omega arith
+rank_met (BadQuestion GapOutOfRange) p = omega arith
+rank_met (BadQuestion TooManySplits) p = omega arith
+rank_met NoRoom p = omega arith
+
+pub nothing_earlier : (b : Option Met) → earlier_of (tested 0 0) (tested_of b) ≡ tested_of b
+nothing_earlier None = earlier_nothing (tested 0 0)
+nothing_earlier (Some m) = sym (earlier_second (tested 0 0) (tested_of (Some m)) refl (sym (rank_none 0)) (rank_met m.error m.place))
+
+pub nothing_as : (a b : Option Met) → ((x : Met) → a ≡ Some x → ⊥) → tested_of b ≡ earlier_of (tested_of a) (tested_of b)
+nothing_as None b h = sym (nothing_earlier b)
+nothing_as (Some x) b h = absurd (h x refl)
+
+pub earlier_as : (a b : Option Met) {m : Met} → a ≡ Some m → ((x : Met) → b ≡ Some x → ⊥) → tested_of (Some m) ≡ earlier_of (tested_of a) (tested_of b)
+earlier_as a None e h = ap tested_of (sym e) ∙ sym (earlier_nothing (tested_of a))
+earlier_as a (Some x) e h = absurd (h x refl)
 
 pick_second : (x y : Tested) → ltb (rank_in y) (rank_in x) ≡ true → earlier_of x y ≡ y
 pick_second x y e = ap (λ (t : Bool). cond t y x) e

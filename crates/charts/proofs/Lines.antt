@@ -1,6 +1,6 @@
 -- A chart's lines by their places: the question of a pair, the lines behind the first k, and what a report's first byte says. Assumes nothing.
 use mathlib.Core.Path.{◌≡◌, refl, sym, ap, ◌∙◌, subst}
-use mathlib.Core.List.{List, [], ◌∷◌}
+use mathlib.Core.List.{List, ◌∷◌}
 use mathlib.Core.Bool.{Bool, true, false, ◌&&◌, cond}
 use Prim.Native.Nat.{ℕ, zero, suc, ◌+◌, ◌-◌, ◌≤◌, ◌<◌}
 use native.Mathlib.Omega.{arith}
@@ -8,19 +8,22 @@ use borrow.Author.Tests.{le-leb, lt-leb}
 use lib.Dec.{leb, eqb}
 use lib.ListN.{length, get_or, drop}
 use lib.Ieee.{Float}
-use Rattle.lists.specs.Parts.{patch}
+use Rattle.std.specs.Prelude.{Option, None, Result, Ok, Err}
+use Rattle.verdicts.specs.declared.Side.{Side}
 use Rattle.lines.specs.Lines.{Question}
 use Rattle.opening.specs.declared.Question.{Question as Asking}
-use Rattle.opening.specs.Opens.{question_of}
+use Rattle.opening.specs.declared.OpenError.{OpenError}
+use Rattle.states.specs.declared.State.{State}
+use Rattle.texts.specs.Texts.{Wrote}
+use Rattle.opening.specs.Opens.{open_error_number, open_error_line, line_number, opened_number, opened_line, question_of}
 use Rattle.walks.specs.declared.Line.{Line}
-use Rattle.walks.specs.declared.Sheet.{Sheet}
+use Rattle.walks.specs.declared.ChartPlaces.{ChartPlaces}
 use Rattle.walks.specs.Words.{float_at}
 use Rattle.walks.specs.Sheets.{ChartLine, Chart, chart_of}
 use Rattle.walks.specs.Places.{LineInside, ChartLineInside, LinesInside, line_in, line_at, chart_line_at, behind_at, lines_at, chart_in}
-use Rattle.sheet.specs.declared.Pair.{Pair}
-use Rattle.sheet.specs.Answers.{asking_at, Answered}
+use Rattle.sheet.specs.Answers.{range_at, asking_at, opened_on, lines_text}
 use Rattle.charts.specs.Charts.{Tested, tested, pair_for, lines_complete}
-use Rattle.charts.specs.Found.{place_of, opened_at, earlier_of, lines_met, chart_met, line_place}
+use Rattle.charts.specs.Found.{place_of, tested_of, opened_at, earlier_of, lines_met, chart_met, line_place}
 use Rattle.charts.specs.Answers.{line_part, Left}
 use Rattle.charts.proofs.Laws.{earlier_nothing, earlier_assoc}
 use Rattle.charts.proofs.Says.{lines_say}
@@ -37,9 +40,9 @@ module _ (s : List ℕ) (at : ℕ) {l : Line} (is : l ≡ line_at s at) where
   line-inside h = subst (LineInside (length s)) (sym is) h.line
 
   -- the question that the code makes is the pair's
-  pub pair_is : (w : Sheet) {q : Asking} → q ≡ asking_at s w.asked (l.next + 4) w.splits w.first.datum l.datum
+  pub pair_is : (w : ChartPlaces) {q : Asking} → q ≡ asking_at s w.asked (l.next + 4) w.splits w.first.datum l.datum
       → question_of q (line_in s w.first) (line_in s l) ≡ pair_for (chart_in s w) (chart_line_at s at)
-  unfolding asking_at line_in chart_in chart_line_at chart_of
+  unfolding asking_at range_at line_in chart_in chart_line_at chart_of
   pair_is w {q} e =
       ap (λ (a : Asking). question_of a (line_in s w.first) (line_in s l)) e
       ∙ ap (λ (x : Line). question_of (asking_at s w.asked (x.next + 4) w.splits w.first.datum x.datum) (line_in s w.first) (line_in s x)) is
@@ -58,18 +61,18 @@ module _ (s : List ℕ) (at : ℕ) {l : Line} (is : l ≡ line_at s at) where
             splits = w.splits;
           }
 
-pub answered_as : (print : Bool) (before : List ℕ) {p q : Question} {after : List ℕ} {r : Pair} → p ≡ q → Answered print p before after r → Answered print q before after r
-answered_as print before {p} {q} {after} {r} e h = subst (λ (x : Question). Answered print x before after r) e h
+-- ---- what the opening of a pair meets
+pub met_none : (c : Chart) (l : ChartLine) (k : ℕ) {q : Question} {r : Result State OpenError} → r ≡ opened_on q → q ≡ pair_for c l → {x : State} → r ≡ Ok x → tested_of None ≡ opened_at c l k
+met_none c l k e f g = ap (λ (o : Result State OpenError). tested (opened_number o) (place_of k (opened_line o))) (sym g ∙ e ∙ ap opened_on f)
 
--- ---- an opening alone
-patch_none : (l : List ℕ) → patch l 0 [] ≡ l
-patch_none l = refl
+pub met_some : (c : Chart) (l : ChartLine) (k : ℕ) {q : Question} {r : Result State OpenError} → r ≡ opened_on q → q ≡ pair_for c l → {x : OpenError} → r ≡ Err x
+    → {side : Option Side} {place : ℕ} → side ≡ open_error_line x → place ≡ place_of k (line_number side) → tested (open_error_number x) place ≡ opened_at c l k
+met_some c l k e f {x} g h p =
+    ap (tested (open_error_number x)) (p ∙ ap (λ (s : Option Side). place_of k (line_number s)) h)
+    ∙ ap (λ (o : Result State OpenError). tested (opened_number o) (place_of k (opened_line o))) (sym g ∙ e ∙ ap opened_on f)
 
--- what is met, and that nothing is written
-pub opened-met : (c : Chart) (l : ChartLine) (k : ℕ) {before after : List ℕ} {p : Pair} {place : ℕ} → Answered false (pair_for c l) before after p → place ≡ place_of k p.line
-    → (tested p.no place ≡ opened_at c l k) × (after ≡ before)
-opened-met c l k {before} {after} {p} {place} h e =
-    ((λ i. tested (h.0 i) ((e ∙ ap (place_of k) h.1) i)), h.2.1 ∙ patch_none before)
+pub printed_as : (before : List ℕ) {p q : Question} {after : List ℕ} {n : ℕ} → p ≡ q → Wrote before 0 (lines_text p) after n → Wrote before 0 (lines_text q) after n
+printed_as before {p} {q} {after} {n} e h = subst (λ (x : Question). Wrote before 0 (lines_text x) after n) e h
 
 -- ---- the first k of n lines
 pub inside_fewer : (s : List ℕ) (k n at : ℕ) → k ≤ n → LinesInside s n at → LinesInside s k at
@@ -93,11 +96,11 @@ unfolding line_place
 place_done s k i at from h f = let n : k - i ≡ 0 = omega arith in ap (λ (m : ℕ). line_place s m at) (sym n) ∙ f
 
 -- ---- what the openings of all lines meet first, line by line
-pub lines_of : (s : List ℕ) (w : Sheet) → (chart_in s w).lines ≡ lines_at s w.lines w.first.next
+pub lines_of : (s : List ℕ) (w : ChartPlaces) → (chart_in s w).lines ≡ lines_at s w.lines w.first.next
 unfolding chart_in chart_of
 lines_of s w = refl
 
-module _ (s : List ℕ) (w : Sheet) where
+module _ (s : List ℕ) (w : ChartPlaces) where
   -- what is met of the lines behind the one at place `at`, of which k were opened
   abbrev pub behind_met : ℕ → ℕ → Tested
   behind_met k at = lines_met (chart_in s w) (lines_at s (w.lines - k) (behind_at s at)) (k + 2)
@@ -133,7 +136,7 @@ unfolding lines_at
 lines_length s zero at = refl
 lines_length s (suc n) at = ap suc (lines_length s n (behind_at s at))
 
-module _ (s : List ℕ) (w : Sheet) where
+module _ (s : List ℕ) (w : ChartPlaces) where
   pub chart-length : length (chart_in s w).lines ≡ w.lines
   chart-length = ap length (lines_of s w) ∙ lines_length s w.lines w.first.next
 
@@ -179,13 +182,13 @@ module _ (s : List ℕ) where
       ∙ ap (λ (m : ℕ). chart_line_at s (line_place s k (behind_at s at)) ∷ lines_at s m (behind_at s (line_place s k (behind_at s at)))) (sym e)
 
 -- ---- the report of line k
-pub report_left : (s : List ℕ) (w : Sheet) (k : ℕ) (good complete all : Bool) (before : List ℕ) {after : List ℕ} {p : Pair} (at : ℕ) → k < w.lines → at ≡ line_place s k w.first.next
-    → Answered true (pair_for (chart_in s w) (chart_line_at s at)) before after p → complete ≡ eqb (get_or after 0 0) 99 → all ≡ (good && complete)
-    → Left (line_part (chart_in s w) (drop k (chart_in s w).lines) good) before after (record { length = p.length; more = true; good = all })
-report_left s w k good complete all before {after} {p} at h e a f g =
+pub report_left : (s : List ℕ) (w : ChartPlaces) (k : ℕ) (good complete all : Bool) (before : List ℕ) {after : List ℕ} {n : ℕ} (at : ℕ) → k < w.lines → at ≡ line_place s k w.first.next
+    → Wrote before 0 (lines_text (pair_for (chart_in s w) (chart_line_at s at))) after n → complete ≡ eqb (get_or after 0 0) 99 → all ≡ (good && complete)
+    → Left (line_part (chart_in s w) (drop k (chart_in s w).lines) good) before after (record { length = n; more = true; good = all })
+report_left s w k good complete all before {after} {n} at h e a f g =
     let l = chart_line_at s at in
     let first : drop k (chart_in s w).lines ≡ l ∷ lines_at s (w.lines - (k + 1)) (behind_at s at) =
     ap (drop k) (lines_of s w) ∙ line_at_k s k w.lines w.first.next h ∙ sym (ap (λ (x : ℕ). chart_line_at s x ∷ lines_at s (w.lines - (k + 1)) (behind_at s x)) e) in
-    let says : complete ≡ lines_complete (pair_for (chart_in s w) l) = f ∙ ap (λ (t : List ℕ). eqb (get_or t 0 0) 99) a.2.1 ∙ lines_say before (pair_for (chart_in s w) l) in
-    subst (λ (ls : List ChartLine). Left (line_part (chart_in s w) ls good) before after (record { length = p.length; more = true; good = all })) (sym first)
-    (a.2, refl, g ∙ ap (λ (b : Bool). good && b) says)
+    let says : complete ≡ lines_complete (pair_for (chart_in s w) l) = f ∙ ap (λ (t : List ℕ). eqb (get_or t 0 0) 99) a.1 ∙ lines_say before (pair_for (chart_in s w) l) in
+    subst (λ (ls : List ChartLine). Left (line_part (chart_in s w) ls good) before after (record { length = n; more = true; good = all })) (sym first)
+    (a, refl, g ∙ ap (λ (b : Bool). good && b) says)

@@ -11,15 +11,15 @@ use Rattle.regions.specs.declared.Word.{Word}
 use Rattle.regions.specs.declared.Word.TheVariants.{Complete, Budget, Unseparated}
 use Rattle.states.specs.declared.Counts.{Counts}
 use Rattle.states.specs.States.{Memory}
-use Rattle.search.specs.declared.Stepped.{Stepped}
-use Rattle.search.specs.declared.Stepped.TheVariants.{Next, Ended, NoRoom}
+use Rattle.std.specs.Prelude.{Result, Ok, Err}
+use Rattle.states.specs.declared.State.{State}
+use Rattle.states.specs.declared.StepError.{StepError}
 use Rattle.search.specs.Runs.{run_def}
 use Rattle.nodes.specs.Nets.{geometry}
-use Rattle.report.specs.declared.Reported.{Reported}
-use Rattle.report.specs.declared.Reported.TheVariants.{Told, Running, NoRoom as NoReportRoom}
+use Rattle.report.specs.declared.Summary.{Summary}
+use Rattle.report.specs.declared.ReportError.{ReportError}
 use Rattle.report.specs.Reports.{Output, report_def}
-use Rattle.opening.specs.declared.Opened.{Opened}
-use Rattle.opening.specs.declared.Opened.TheVariants.{Open, BadLine, BadDatum, BadQuestion, NoRoom as NoOpenRoom}
+use Rattle.opening.specs.declared.OpenError.{OpenError}
 use Rattle.opening.specs.Opens.{open_def}
 use Rattle.printing.specs.Printed.{counted, count_line, region_lines, refusal_line}
 use Rattle.sheet.specs.Answers.{zeros, lent, lent_output, reported_text, report_text, stepped_text, search_text, opened_text, lines_text}
@@ -40,24 +40,19 @@ module _ (out : List ℕ) where
   word_says Budget c n r = refl
   word_says Unseparated c n r = refl
 
-  reported_says : (a : Reported) (o : Output) → starts (reported_text a o) ≡ reported_complete a
-  reported_says (Told w c n) o = word_says w c n (region_lines n o.regions o.marks)
-  reported_says Running o = refused_says 21 0
-  reported_says NoReportRoom o = refused_says 19 0
+  reported_says : (a : Result Summary ReportError) (o : Output) → starts (reported_text a o) ≡ reported_complete a
+  reported_says (Ok r) o = word_says r.word r.counts r.regions (region_lines r.regions o.regions o.marks)
+  reported_says (Err e) o = refused_says _ _
 
-  stepped_says : (a : Stepped) (u : Memory) → starts (stepped_text a u lent_output) ≡ stepped_complete a u
+  stepped_says : (a : Result State StepError) (u : Memory) → starts (stepped_text a u lent_output) ≡ stepped_complete a u
   unfolding report_text
-  stepped_says (Next x) u = let r = report_def geometry x u lent_output in reported_says r.answer r.output
-  stepped_says Ended u = refused_says 20 0
-  stepped_says NoRoom u = refused_says 19 0
+  stepped_says (Ok x) u = let r = report_def geometry x u lent_output in reported_says r.answer r.output
+  stepped_says (Err e) u = refused_says _ _
 
-  opened_says : (a : Opened) (u : Memory) → starts (opened_text a u lent_output) ≡ opened_complete a u
+  opened_says : (a : Result State OpenError) (u : Memory) → starts (opened_text a u lent_output) ≡ opened_complete a u
   unfolding search_text
-  opened_says (Open x) u = let o = run_def geometry x u in stepped_says o.answer o.memory
-  opened_says (BadLine line a) u = refused_says _ _
-  opened_says BadDatum u = refused_says 23 2
-  opened_says (BadQuestion a) u = refused_says _ _
-  opened_says NoOpenRoom u = refused_says 19 0
+  opened_says (Ok x) u = let o = run_def geometry x u in stepped_says o.answer o.memory
+  opened_says (Err e) u = refused_says _ _
 
   pub lines_say : (q : Question) → starts (lines_text q) ≡ lines_complete q
   unfolding lines_text lines_complete

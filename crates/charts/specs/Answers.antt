@@ -33,7 +33,7 @@ abbrev pub line_part : Chart → List ChartLine → Bool → Part
 line_part c (l ∷ ls) good = record { text = lines_text (pair_for c l); more = true; good = good && lines_complete (pair_for c l) }
 line_part c [] good = last (last_line good) good
 
--- instalment k, counted from 0, of a chart that meets no test (`chart_part`)
+-- instalment k, counted from 0, of a chart that meets no test (`Chart::part`)
 abbrev pub chart_part : Chart → ℕ → Bool → Part
 chart_part c k good = cond (leb k (length c.lines)) (line_part c (drop k c.lines) good) (last [] good)
 

@@ -1,24 +1,23 @@
 -- A track against every line of a chart (document 02, M-105): which fault is printed, and what is printed where there is none. Definitions only.
-use Rattle.std.specs.Prelude.{List, [], ◌∷◌, ◌++◌, map, Bool, true, false, ◌&&◌, cond, ℕ, suc, ltb, leb, eqb, length}
+use Rattle.std.specs.Prelude.{List, [], ◌∷◌, ◌++◌, map, Bool, true, false, ◌&&◌, cond, ℕ, suc, ltb, leb, eqb, length, Result, Ok, Err}
 use Rattle.lists.specs.Tests.{each_two}
 use Rattle.floats.specs.Floats.{zero64, within}
 use Rattle.lines.specs.Lines.{Question}
-use Rattle.lines.specs.Admit.{admission_number, admit_of, two24}
+use Rattle.lines.specs.Admit.{line_error_number, admit_of, two24}
 use Rattle.lines.specs.Data.{one_datum}
 use Rattle.knots.specs.Knots.{bounds_of, breaks_of}
 use Rattle.questions.specs.Questions.{range_fits, parted}
 use Rattle.regions.specs.declared.Word.{Word}
 use Rattle.regions.specs.declared.Word.TheVariants.{Complete, Budget, Unseparated}
-use Rattle.states.specs.States.{Memory}
-use Rattle.search.specs.declared.Stepped.{Stepped}
-use Rattle.search.specs.declared.Stepped.TheVariants.{Next, Ended, NoRoom}
+use Rattle.states.specs.declared.State.{State}
+use Rattle.states.specs.declared.StepError.{StepError}
+use Rattle.states.specs.States.{Memory, refusal_number}
 use Rattle.nodes.specs.Nets.{geometry}
 use Rattle.search.specs.Runs.{run_def}
-use Rattle.report.specs.declared.Reported.{Reported}
-use Rattle.report.specs.declared.Reported.TheVariants.{Told, Running, NoRoom as NoReportRoom}
+use Rattle.report.specs.declared.Summary.{Summary}
+use Rattle.report.specs.declared.ReportError.{ReportError}
 use Rattle.report.specs.Reports.{report_def}
-use Rattle.opening.specs.declared.Opened.{Opened}
-use Rattle.opening.specs.declared.Opened.TheVariants.{Open, BadLine, BadDatum, BadQuestion, NoRoom as NoOpenRoom}
+use Rattle.opening.specs.declared.OpenError.{OpenError}
 use Rattle.opening.specs.Opens.{opened_number, open_def}
 use Rattle.walks.specs.Sheets.{ChartLine, Chart}
 use Rattle.printing.specs.Printed.{complete_text, newline, refusal_line}
@@ -58,7 +57,7 @@ count_number c = cond (leb 1 (length c.lines) && leb (length c.lines) 64) 0 24
 
 -- 4 to 14, and 22
 abbrev pub line_number : ChartLine → ℕ
-line_number l = admission_number (admit_of l.line)
+line_number l = refusal_number line_error_number (admit_of l.line)
 
 -- 23: "Each datum is held against the track's"
 abbrev pub datum_number : Chart → ChartLine → ℕ
@@ -127,22 +126,17 @@ is_complete Complete = true
 is_complete Budget = false
 is_complete Unseparated = false
 
-abbrev pub reported_complete : Reported → Bool
-reported_complete (Told w c n) = is_complete w
-reported_complete Running = false
-reported_complete NoReportRoom = false
+abbrev pub reported_complete : Result Summary ReportError → Bool
+reported_complete (Ok r) = is_complete r.word
+reported_complete (Err e) = false
 
-abbrev pub stepped_complete : Stepped → Memory → Bool
-stepped_complete (Next x) u = reported_complete (report_def geometry x u lent_output).answer
-stepped_complete Ended u = false
-stepped_complete NoRoom u = false
+abbrev pub stepped_complete : Result State StepError → Memory → Bool
+stepped_complete (Ok x) u = reported_complete (report_def geometry x u lent_output).answer
+stepped_complete (Err e) u = false
 
-abbrev pub opened_complete : Opened → Memory → Bool
-opened_complete (Open x) u = let o = run_def geometry x u in stepped_complete o.answer o.memory
-opened_complete (BadLine line a) u = false
-opened_complete BadDatum u = false
-opened_complete (BadQuestion a) u = false
-opened_complete NoOpenRoom u = false
+abbrev pub opened_complete : Result State OpenError → Memory → Bool
+opened_complete (Ok x) u = let o = run_def geometry x u in stepped_complete o.answer o.memory
+opened_complete (Err e) u = false
 
 -- the report of the track and this line, searched alone, says complete
 unfoldable pub lines_complete : Question → Bool

@@ -9,20 +9,6 @@ ghost use Rattle.charts.specs.Answers.{answer_of};
 use std::io;
 use std::io::Write;
 
-// A word more than the longest sheet, so that a longer input is seen to be one.
-fn sheet_room() -> [u8; 16388]
-    ensures { length result ≡ 16388 }
-{
-    [0u8; 16388]
-}
-
-// The longest instalment.
-fn answer_room() -> [u8; 162446]
-    ensures { length result ≡ longest }
-{
-    [0u8; 162446]
-}
-
 // An instalment on standard output; whether that took the whole of it, and a line on standard error where it didn't.
 fn print_part<W: Write, E: Write>(to: &mut W, errors: &mut E, text: &[u8]) -> bool
     ensures { result ≡ true → Appends (W.contents to.old) (W.contents to.new) text.now }
@@ -39,8 +25,7 @@ fn print_answer<W: Write, E: Write>(to: &mut W, errors: &mut E, s: &[u8], out: &
     ensures { result ≡ true → longest ≤ length out.old → Appends (W.contents to.old) (W.contents to.new) (answer_of s.now) }
 {
     let mut good = true;
-    let mut k = 0usize;
-    while k < 66 {
+    for k in 0..66 {
         let part = charts::next(s, k, good, out);
         let n = part.length;
         if n > out.len() {
@@ -53,14 +38,15 @@ fn print_answer<W: Write, E: Write>(to: &mut W, errors: &mut E, s: &[u8], out: &
             return true;
         }
         good = part.good;
-        k += 1;
     }
     true
 }
 
 fn main(rt: HostRuntime) -> io::Result<()> {
-    let mut s = sheet_room();
-    let mut out = answer_room();
+    // A word more than the longest sheet, so that a longer input is seen to be one.
+    let mut s = [0u8; 16388];
+    // The longest instalment.
+    let mut out = [0u8; 162446];
     let n = streams::read_full(&mut rt.stdin(), &mut s);
     print_answer(&mut rt.stdout(), &mut rt.stderr(), &s[..n], &mut out);
     Ok(())

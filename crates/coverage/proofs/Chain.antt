@@ -9,6 +9,7 @@ use lib.Dec.{T}
 use lib.ListN.{length, take, drop, length-append, length-take, take-append-drop, length-reverse}
 use lib.Seq.{length-take-le, take-append-le, take_at, take-take}
 use lib.Ieee.{Float}
+use Rattle.std.proofs.lemmas.List.{length-map, map-append}
 use Rattle.lists.specs.Parts.{block, patch}
 use Rattle.lists.proofs.Parts.{patch_length}
 use Rattle.verdicts.specs.declared.Verdict.{Verdict}
@@ -19,18 +20,19 @@ use Rattle.regions.specs.declared.Region.{Region}
 use Rattle.regions.specs.Regions.{merging, flats, regions_in}
 use Rattle.regions.specs.Reports.{word_for}
 use Rattle.states.specs.declared.State.{State}
-use Rattle.search.specs.declared.Own.{Own}
-use Rattle.search.specs.declared.Own.TheVariants.{Is, Ended as OwnEnded, NoRoom as OwnNoRoom}
 use Rattle.nodes.specs.Geometry.{region_for, region_of}
-use Rattle.states.specs.States.{spare, Memory, memory, Sizes, sizes, needed, enough, enough_own, is_search}
+use Rattle.states.specs.States.{spare, Memory, Sizes, sizes, needed, enough, enough_own, is_search}
 use Rattle.search.specs.Steps.{step_def, judge_at, own_def}
-use Rattle.report.specs.declared.Reported.TheVariants.{Told, Running, NoRoom as ReportNoRoom}
-use Rattle.report.specs.Reports.{Output, out_room, written, reporting, left_regions, raw_after, write_report, report_def}
+use Rattle.report.specs.Reports.{summary_of, Output, out_room, written, reporting, left_regions, raw_after, write_report, report_def}
 use Rattle.coverage.specs.Calls.{Call, step, own, report, Answer, judged, reported, Outcome, lend, give_back, call, Ran, run_all, step_outcome, report_outcome, back_in}
 use Rattle.opening.specs.Asked.{Asked, shape, pairs_of, start, state_of, result_of, net_of1, net_of2, depth_of, raw_list, records_for}
 use Rattle.coverage.specs.Rules.{Ruled, lent, suffices, step_rule, test_top, own_rule, after_own, report_rule, call_rule, RuledAll, rule_all}
 use Rattle.coverage.specs.Claim.{AllStored}
-use Rattle.coverage.proofs.Refine.{agree_stored, Room, room_of, fits_in, RoomOwn, room_own, start_block, agree_lend, agree_back, lend_back, lend-sizes, back_sizes, Numbers, Held, part1_is, part2_is, flats-length, map_append, length_mapped, raw_more, counts_result, StepSim, unchanged, moved, search, rule_with, top_depth_lem, is_search_lem, step_sim}
+use Rattle.coverage.proofs.Refine.{agree_stored, Room, room_of, fits_in, RoomOwn, room_own, start_block, agree_lend, agree_back, lend_back, lend-sizes, back_sizes, Numbers, Held, part1_is, part2_is, flats-length, raw_more, counts_result, StepSim, unchanged, moved, search, rule_with, top_depth_lem, is_search_lem, step_sim}
+use Rattle.states.specs.declared.StepError.{StepError}
+use Rattle.states.specs.declared.StepError.TheVariants.{Ended, NoRoom}
+use Rattle.report.specs.declared.ReportError.TheVariants.{Running, NoRoom as ReportNoRoom}
+use Rattle.std.proofs.Common.{Result, Ok, Err}
 
 -- ---- between calls
 pub record Inv (q : Asked) (full : Sizes) (m : Search (shape q)) (u : Memory) : Type 0 where
@@ -110,7 +112,7 @@ module _ (q : Asked) (low : (w : ℕ) (l : List Float) → length l ≡ 4 * w �
   pub own_fields : (l : List (Node (shape q))) (se : List (Settling (shape q))) (gi : List (Node (shape q))) (vi sp un : ℕ) (st : Bool) (ow : OwnVerdict) (w : Memory)
       → Numbers q (search q l se gi vi sp un st ow) → (RoomOwn q (sizes w) → OwnHeld q w l)
       → own_def q.geometry (state_of q (search q l se gi vi sp un st ow)) w
-      ≡ cond (ended (shape q) (search q l se gi vi sp un st ow)) OwnEnded (cond (enough_own (needed (state_of q (start q))) (sizes w)) (test_top q l) OwnNoRoom)
+      ≡ cond (ended (shape q) (search q l se gi vi sp un st ow)) (Err Ended) (cond (enough_own (needed (state_of q (start q))) (sizes w)) (test_top q l) (Err NoRoom))
   own_fields l se gi vi sp un true ow w N H = refl
   own_fields [] se gi vi sp un false ow w N H = refl
   own_fields (n ∷ r) se gi vi sp un false ow w N H =
@@ -118,11 +120,11 @@ module _ (q : Asked) (low : (w : ℕ) (l : List Float) → length l ≡ 4 * w �
       (λ (R : RoomOwn q (sizes w)). is_search_lem q (search q (n ∷ r) se gi vi sp un false ow) w N (H R).2)
     where
       go : (e s : Bool) → (T e → RoomOwn q (sizes w)) → (RoomOwn q (sizes w) → T s)
-          → cond (e && s) (judge_at q.geometry (suc (length r)) (state_of q (search q (n ∷ r) se gi vi sp un false ow)) w) OwnNoRoom
-          ≡ cond e (test_top q (n ∷ r)) OwnNoRoom
+          → cond (e && s) (judge_at q.geometry (suc (length r)) (state_of q (search q (n ∷ r) se gi vi sp un false ow)) w) (Err NoRoom)
+          ≡ cond e (test_top q (n ∷ r)) (Err NoRoom)
       go false s f g = refl
       go true false f g = absurd (g (f tt))
-      go true true f g = let z = H (f tt) in λ i. Is (q.geometry.clearing q.gap (z.0 i) (z.1 i))
+      go true true f g = let z = H (f tt) in λ i. Ok (q.geometry.clearing q.gap (z.0 i) (z.1 i))
 
   own_lent : (l : List (Node (shape q))) (n : Sizes) (u : Memory) → length l ≤ pairs_of q + spare → AllStored q u l → RoomOwn q (sizes (lend n u)) → OwnHeld q (lend n u) l
   own_lent [] n u h z R = tt
@@ -136,7 +138,7 @@ module _ (q : Asked) (low : (w : ℕ) (l : List Float) → length l ≡ 4 * w �
   own_is m u n I =
       own_fields m.stack m.settled m.given m.visits m.splits m.unspent m.stopped m.own (lend n u) I.numbers
       (own_lent m.stack n u (at_most_lem (shape q) (pairs_of q) m.stack I.numbers.counts.steep) I.held.nodes)
-      ∙ ap (λ (s : Sizes). cond (ended (shape q) m) OwnEnded (cond (enough_own (needed (state_of q (start q))) s) (test_top q m.stack) OwnNoRoom))
+      ∙ ap (λ (s : Sizes). cond (ended (shape q) m) (Err Ended) (cond (enough_own (needed (state_of q (start q))) s) (test_top q m.stack) (Err NoRoom)))
       (lend-sizes n u ∙ ap (lent n) I.lengths)
 
 -- ---- report
@@ -155,7 +157,7 @@ left_is q m w [] z = refl
 left_is q m w (n ∷ r) z =
     let f = region_of q.geometry q.gap in
     (λ i. left_is q m w r z.1 i ++ (region_for q.geometry (part1_is q m w (length r) n z.0 i) (part2_is q m w (length r) n z.0 i) ∷ []))
-    ∙ sym (map_append f (reverse r) (n ∷ [])) ∙ ap (map f) (sym (reverse-cons n r))
+    ∙ sym (map-append f (reverse r) (n ∷ [])) ∙ ap (map f) (sym (reverse-cons n r))
 
 take_before : {A : Type 0} (l : List A) (i : ℕ) (vs : List A) → i ≤ length l → take i (patch l i vs) ≡ take i l
 take_before l i vs h = take_at (take i l) (vs ++ drop (i + length vs) l) i (length-take-le i l h)
@@ -165,7 +167,7 @@ module _ (q : Asked) (m : Search (shape q)) (w : Memory) (N : Numbers q m) (R : 
   lefts = left_is q m w m.stack H.nodes
 
   left_count : length (left_regions q.geometry (state_of q m) w.nets1 w.nets2 w.ranges (length m.stack)) ≡ length m.stack
-  left_count = ap length lefts ∙ length_mapped (region_of q.geometry q.gap) (reverse m.stack) ∙ length-reverse m.stack
+  left_count = ap length lefts ∙ length-map (reverse m.stack) (region_of q.geometry q.gap) ∙ length-reverse m.stack
 
   room_raw : (length m.given + length m.stack) * 10 ≤ length w.raw
   room_raw = fits_in (length m.given + length m.stack) (records_for q) 10 (length w.raw) (given_small q m N) R.raw
@@ -179,7 +181,7 @@ module _ (q : Asked) (m : Search (shape q)) (w : Memory) (N : Numbers q m) (R : 
       let X = left_regions q.geometry (state_of q m) w.nets1 w.nets2 w.ranges (length m.stack) in
       let L = map f m.given ++ X in
       let size : length L ≡ length m.given + length m.stack =
-      length-append (map f m.given) X ∙ ap (λ (z : ℕ). z + length X) (length_mapped f m.given) ∙ ap (λ (z : ℕ). length m.given + z) left_count in
+      length-append (map f m.given) X ∙ ap (λ (z : ℕ). z + length X) (length-map m.given f) ∙ ap (λ (z : ℕ). length m.given + z) left_count in
       let ten : length L * 10 ≡ length m.given * 10 + length (flats X) =
       ap (λ (z : ℕ). z * 10) size ∙ add-mul (length m.given) (length m.stack) 10
       ∙ ap (λ (z : ℕ). length m.given * 10 + z * 10) (sym left_count) ∙ ap (λ (z : ℕ). length m.given * 10 + z) (sym (flats-length X)) in
@@ -187,12 +189,12 @@ module _ (q : Asked) (m : Search (shape q)) (w : Memory) (N : Numbers q m) (R : 
       ap (λ (z : ℕ). regions_in z whole) (sym size)
       ∙ regions_in-take L whole (ap (λ (z : ℕ). take z whole) ten ∙ raw_more q m.given X w.raw given_room H.raw)
       ∙ ap (λ (z : List Region). map f m.given ++ z) lefts
-      ∙ sym (map_append f m.given (reverse m.stack))
+      ∙ sym (map-append f m.given (reverse m.stack))
 
   write_sim : (out : Output)
       → StepSim q (report_outcome (state_of q m) (write_report q.geometry (state_of q m) w out))
       (record {
-        answer = reported (Told (word_for (length m.given) (length m.stack)) (result_of q m) (length (merged merging (raw_list q m))))
+        answer = reported (summary_of (word_for (length m.given) (length m.stack)) (result_of q m) (length (merged merging (raw_list q m))))
             (written q.terms (length m.given + length m.stack) (merged merging (raw_list q m)) out);
         search = m;
       })
@@ -200,7 +202,7 @@ module _ (q : Asked) (m : Search (shape q)) (w : Memory) (N : Numbers q m) (R : 
   write_sim out =
       let X = left_regions q.geometry (state_of q m) w.nets1 w.nets2 w.ranges (length m.stack) in
       moved
-      (λ i. reported (Told (word_for (length m.given) (length m.stack)) (counts_result q m i) (length (merged merging (raws_are i))))
+      (λ i. reported (summary_of (word_for (length m.given) (length m.stack)) (counts_result q m i) (length (merged merging (raws_are i))))
       (written q.terms (length m.given + length m.stack) (merged merging (raws_are i)) out))
       refl
       (record {
@@ -225,21 +227,21 @@ report_with q e out m =
     cond (ended (shape q) m)
     (cond (e && out_room (records_for q) out)
     (let raws = raw_list q m in
-    reported (Told (word_for (length m.given) (length m.stack)) (result_of q m) (length (merged merging raws)))
+    reported (summary_of (word_for (length m.given) (length m.stack)) (result_of q m) (length (merged merging raws)))
     (written q.terms (length m.given + length m.stack) (merged merging raws) out))
-    (reported ReportNoRoom out))
-    (reported Running out)
+    (reported (Err ReportNoRoom) out))
+    (reported (Err Running) out)
 
 module _ (q : Asked) (full : Sizes) where
   report_ended : (m : Search (shape q)) (w : Memory) (out : Output) → Numbers q m → (Room q (sizes w) → Held q m w)
       → StepSim q (report_outcome (state_of q m) (cond
       (enough (needed (state_of q (start q))) (sizes w) && out_room (records_for q) out && is_search (state_of q m) w)
-      (write_report q.geometry (state_of q m) w out) (reporting ReportNoRoom w out)))
+      (write_report q.geometry (state_of q m) w out) (reporting (Err ReportNoRoom) w out)))
       (record {
         answer = cond (enough (needed (state_of q (start q))) (sizes w) && out_room (records_for q) out)
-            (reported (Told (word_for (length m.given) (length m.stack)) (result_of q m) (length (merged merging (raw_list q m))))
+            (reported (summary_of (word_for (length m.given) (length m.stack)) (result_of q m) (length (merged merging (raw_list q m))))
             (written q.terms (length m.given + length m.stack) (merged merging (raw_list q m)) out))
-            (reported ReportNoRoom out);
+            (reported (Err ReportNoRoom) out);
         search = m;
       }) m w
   report_ended m w out N H =
@@ -247,12 +249,12 @@ module _ (q : Asked) (full : Sizes) where
       (room_of q (sizes w)) (λ (R : Room q (sizes w)). is_search_lem q m w N (top_depth_lem q w m.stack (H R).nodes))
     where
       go : (e b s : Bool) → (T e → Room q (sizes w)) → (Room q (sizes w) → T s)
-          → StepSim q (report_outcome (state_of q m) (cond (e && b && s) (write_report q.geometry (state_of q m) w out) (reporting ReportNoRoom w out)))
+          → StepSim q (report_outcome (state_of q m) (cond (e && b && s) (write_report q.geometry (state_of q m) w out) (reporting (Err ReportNoRoom) w out)))
           (record {
             answer = cond (e && b)
-                (reported (Told (word_for (length m.given) (length m.stack)) (result_of q m) (length (merged merging (raw_list q m))))
+                (reported (summary_of (word_for (length m.given) (length m.stack)) (result_of q m) (length (merged merging (raw_list q m))))
                 (written q.terms (length m.given + length m.stack) (merged merging (raw_list q m)) out))
-                (reported ReportNoRoom out);
+                (reported (Err ReportNoRoom) out);
             search = m;
           }) m w
       go false b s f g = unchanged refl refl refl refl
@@ -299,15 +301,13 @@ module _ (q : Asked) (low : (w : ℕ) (l : List Float) → length l ≡ 4 * w �
     lengths = I.lengths;
   }
 
-  own_next : (a : Own) (m : Search (shape q)) (u : Memory) → Inv q full m u → Inv q full (after_own q a m) u
-  own_next (Is v) m u I = remember_inv v m u I
-  own_next OwnEnded m u I = I
-  own_next OwnNoRoom m u I = I
+  own_next : (a : Result Verdict StepError) (m : Search (shape q)) (u : Memory) → Inv q full m u → Inv q full (after_own q a m) u
+  own_next (Ok v) m u I = remember_inv v m u I
+  own_next (Err e) m u I = I
 
-  own_state : (a : Own) (m : Search (shape q)) → state_of q m ≡ state_of q (after_own q a m)
-  own_state (Is v) m = refl
-  own_state OwnEnded m = refl
-  own_state OwnNoRoom m = refl
+  own_state : (a : Result Verdict StepError) (m : Search (shape q)) → state_of q m ≡ state_of q (after_own q a m)
+  own_state (Ok v) m = refl
+  own_state (Err e) m = refl
 
   pub call_next : (c : Call) (m : Search (shape q)) (u : Memory) → Inv q full m u → Follows q full (call q.geometry c (state_of q m) u) (call_rule q full c m)
   call_next (step v n) m u I = step_next q low upp full m u n v I

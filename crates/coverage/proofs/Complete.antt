@@ -12,8 +12,6 @@ use lib.Ieee.{Float}
 use Rattle.lists.specs.Members.{Any, All}
 use Rattle.verdicts.specs.declared.Verdict.{Verdict}
 use Rattle.verdicts.specs.declared.Verdict.TheVariants.{Settled, Split, Unseparated}
-use Rattle.verdicts.specs.declared.Choice.{Choice}
-use Rattle.verdicts.specs.declared.Choice.TheVariants.{First, Second, Neither}
 use Rattle.machine.specs.Machine.{Node, Settling, Search, choice_of, InNode, ended, split_along, divide, advance, OwnVerdict, not_settled, settled_by, remembered_as}
 use Rattle.machine.proofs.Cover.{divide_settled}
 use Rattle.machine.specs.Merge.{merged}
@@ -26,19 +24,12 @@ use Rattle.regions.specs.Reports.{word_for}
 use Rattle.states.specs.declared.State.{State}
 use Rattle.states.specs.declared.Counts.{Counts}
 use Rattle.states.specs.States.{Memory, Sizes, sizes, needed, enough, enough_own, is_search, over, records_of}
-use Rattle.search.specs.declared.Stepped.{Stepped}
-use Rattle.search.specs.declared.Stepped.TheVariants.{Next, NoRoom}
-use Rattle.search.specs.declared.Own.{Own}
-use Rattle.search.specs.declared.Own.TheVariants.{Is, NoRoom as OwnNoRoom}
 use Rattle.nodes.specs.Geometry.{Geometry}
-use Rattle.nodes.specs.Nets.{geometry}
 use Rattle.search.specs.Steps.{Stepping, stepping, step_def, own_def}
 use Rattle.search.specs.Runs.{carried_out, turned, run_for, run_def}
-use Rattle.report.specs.declared.Reported.{Reported}
-use Rattle.report.specs.declared.Reported.TheVariants.{Told, Running, NoRoom as ReportNoRoom}
-use Rattle.report.specs.Reports.{Output, out_room, Reporting, reporting, marks_for, written, write_report, report_def}
+use Rattle.report.specs.Reports.{summary_of, Output, out_room, Reporting, reporting, marks_for, written, write_report, report_def}
 use Rattle.terms.specs.declared.Terms.{Terms}
-use Rattle.terms.specs.Terms.{seam_of1, seam_of2}
+use Rattle.terms.specs.Terms.{seam_of}
 use Rattle.machine.specs.Marks.{Marked, marks_of}
 use Rattle.machine.proofs.Marks.{marked_only}
 use Rattle.stretches.specs.Stretches.{near_at}
@@ -54,8 +45,16 @@ use Rattle.coverage.specs.Complete.{turn_calls, loop_calls, looped, Ends, Passes
 use Rattle.coverage.proofs.Refine.{StepSim, unchanged, moved, search, rule_with, step_sim}
 use Rattle.coverage.proofs.Chain.{Inv, own_fields, remember_inv, report_with, report_fields}
 use Rattle.coverage.proofs.Opening.{open_inv}
-use Rattle.coverage.proofs.Final.{Ok, Cleared, ok_advance, ok_remember, ok_start, stay_all, rule_append, word_exact, good_report}
-use Rattle.coverage.proofs.Demand3.{opened_fresh}
+use Rattle.coverage.proofs.Final.{Upheld, Cleared, ok_advance, ok_remember, ok_start, stay_all, rule_append, word_exact, good_report}
+use Rattle.coverage.proofs.Demand3.{same_ok, opened_fresh}
+use Rattle.verdicts.specs.declared.Side.{Side}
+use Rattle.verdicts.specs.declared.Side.TheVariants.{First, Second}
+use Rattle.states.specs.declared.StepError.{StepError}
+use Rattle.states.specs.declared.StepError.TheVariants.{NoRoom}
+use Rattle.report.specs.declared.Summary.{Summary}
+use Rattle.report.specs.declared.ReportError.{ReportError}
+use Rattle.report.specs.declared.ReportError.TheVariants.{Running, NoRoom as ReportNoRoom}
+use Rattle.std.proofs.Common.{Option, Some, None, Result, Ok, Err}
 
 -- every settled node was settled on the own verdict, with its test as the tag
 abbrev AllOwn : (q : Asked) → List (Settling (shape q)) → Type 0
@@ -71,7 +70,7 @@ lent-whole n = λ i. record { nets1 = min_same n.nets1 i; nets2 = min_same n.net
 abbrev rest : (q : Asked) → Search (shape q) → ℕ
 rest q m = 2 * m.unspent + length m.stack
 
-next_of : (a b : Stepped) → ◌≡◌ {A = Answer} (stepped a) (stepped b) → a ≡ b
+next_of : (a b : Result State StepError) → ◌≡◌ {A = Answer} (stepped a) (stepped b) → a ≡ b
 next_of a b e = cc
 
 module _ (q : Asked) (low : (w : ℕ) (l : List Float) → length l ≡ 4 * w → length (q.geometry.lower_net l) ≡ 4 * w)
@@ -83,9 +82,9 @@ module _ (q : Asked) (low : (w : ℕ) (l : List Float) → length l ≡ 4 * w �
 
   -- the loop came to the end of the search m
   record Looped (m : Search (shape q)) (o : Stepping) : Type 0 where
-    answer : o.answer ≡ Next (state_of q m)
+    answer : o.answer ≡ Ok (state_of q m)
     inv : Inv q full m o.memory
-    ok : Ok q m
+    ok : Upheld q m
     own : AllOwn q m.settled
     finished : T (ended (shape q) m)
 
@@ -109,18 +108,17 @@ module _ (q : Asked) (low : (w : ℕ) (l : List Float) → length l ≡ 4 * w �
   lower_rest Unseparated n r se gi vi sp un k ow h = inr (omega arith)
   lower_rest Split n r se gi vi sp un k ow h = go (choice_of (shape q) n) un h
     where
-      split : (b : Bool) (j : ℕ) → 2 * j + suc (length r) < suc k
+      split : (b : Side) (j : ℕ) → 2 * j + suc (length r) < suc k
           → T (ended (shape q) (split_along (shape q) b j n r (search q (n ∷ r) se gi vi sp j false ow))) ⊎
           (rest q (split_along (shape q) b j n r (search q (n ∷ r) se gi vi sp j false ow)) < k)
       split b zero h = inl tt
       split b (suc j) h = inr (omega arith)
 
-      go : (c : Choice) (j : ℕ) → 2 * j + suc (length r) < suc k
+      go : (c : Option Side) (j : ℕ) → 2 * j + suc (length r) < suc k
           → T (ended (shape q) (divide (shape q) c j n r (search q (n ∷ r) se gi vi sp j false ow))) ⊎
           (rest q (divide (shape q) c j n r (search q (n ∷ r) se gi vi sp j false ow)) < k)
-      go First j h = split false j h
-      go Second j h = split true j h
-      go Neither j h = inr (omega arith)
+      go (Some line) j h = split line j h
+      go None j h = inr (omega arith)
 
   -- one turn, lent the whole memory, as the rules answer it, and the turns after it
   one-turn : (k : ℕ) (n : Node (shape q)) (r : List (Node (shape q))) (se : List (Settling (shape q))) (gi : List (Node (shape q))) (vi sp un : ℕ) (ow : OwnVerdict)
@@ -134,31 +132,31 @@ module _ (q : Asked) (low : (w : ℕ) (l : List Float) → length l ≡ 4 * w �
       let m1 = search q (n ∷ r) se gi vi sp un false (remembered_as (shape q) v) in
       let e1 : suffices_own q full full ≡ true = ap (enough_own need) (lent-whole full) ∙ enough_own_lem need full room in
       let e2 : suffices q full full ≡ true = ap (enough need) (lent-whole full) ∙ room in
-      let a : own_rule q full full m0 ≡ Is v = ap (λ (b : Bool). cond b (Is v) OwnNoRoom) e1 in
+      let a : own_rule q full full m0 ≡ Ok v = ap (λ (b : Bool). cond b (Ok v) (Err NoRoom)) e1 in
       let t : (rule_all q full (turn_calls full (own_rule q full full m0)) m0).search ≡ (rule_all q full (own_call full ∷ step v full ∷ []) m0).search
-      = ap (λ (o : Own). (rule_all q full (turn_calls full o) m0).search) a in
-      let h : after_own q (own_rule q full full m0) m0 ≡ m1 = ap (λ (o : Own). after_own q o m0) a in
+      = ap (λ (o : Result Verdict StepError). (rule_all q full (turn_calls full o) m0).search) a in
+      let h : after_own q (own_rule q full full m0) m0 ≡ m1 = ap (λ (o : Result Verdict StepError). after_own q o m0) a in
       let g : (step_rule q full v full m1).search ≡ advance (shape q) v m1
-      = ap (λ (b : Bool). (cond {A = Ruled q} b (record { answer = stepped (Next (state_of q (advance (shape q) v m1))); search = advance (shape q) v m1 })
-      (record { answer = stepped NoRoom; search = m1 })).search) e2 in
+      = ap (λ (b : Bool). (cond {A = Ruled q} b (record { answer = stepped (Ok (state_of q (advance (shape q) v m1))); search = advance (shape q) v m1 })
+      (record { answer = stepped (Err NoRoom); search = m1 })).search) e2 in
       rule_append q full (turn_calls full (own_rule q full full m0)) _ m0
       ∙ ap (turned_from k) (t ∙ ap (λ (x : Search (shape q)). (step_rule q full v full x).search) h ∙ g)
 
   -- one turn, and the rest of the loop
   turn : (k : ℕ)
-      → ((m : Search (shape q)) (u : Memory) → Inv q full m u → Ok q m → AllOwn q m.settled → T (ended (shape q) m) ⊎ (rest q m < k)
+      → ((m : Search (shape q)) (u : Memory) → Inv q full m u → Upheld q m → AllOwn q m.settled → T (ended (shape q) m) ⊎ (rest q m < k)
       → Looped (turned_from k m) (run_for q.geometry k (state_of q m) u))
       → (l : List (Node (shape q))) (se : List (Settling (shape q))) (gi : List (Node (shape q))) (vi sp un : ℕ) (st : Bool) (ow : OwnVerdict) (u : Memory)
-      → Inv q full (search q l se gi vi sp un st ow) u → Ok q (search q l se gi vi sp un st ow) → AllOwn q se
+      → Inv q full (search q l se gi vi sp un st ow) u → Upheld q (search q l se gi vi sp un st ow) → AllOwn q se
       → T (ended (shape q) (search q l se gi vi sp un st ow)) ⊎ (rest q (search q l se gi vi sp un st ow) < suc k)
       → Looped (turned_from (suc k) (search q l se gi vi sp un st ow)) (run_for q.geometry (suc k) (state_of q (search q l se gi vi sp un st ow)) u)
   turn k go l se gi vi sp un true ow u I K O h =
       let m = search q l se gi vi sp un true ow in
-      subst (λ (x : Search (shape q)). Looped x (stepping (Next (state_of q m)) u)) (sym (stay_all q full (loop_calls q full k m) m tt))
+      subst (λ (x : Search (shape q)). Looped x (stepping (Ok (state_of q m)) u)) (sym (stay_all q full (loop_calls q full k m) m tt))
       (record { answer = refl; inv = I; ok = K; own = O; finished = tt })
   turn k go [] se gi vi sp un false ow u I K O h =
       let m = search q [] se gi vi sp un false ow in
-      subst (λ (x : Search (shape q)). Looped x (stepping (Next (state_of q m)) u)) (sym (stay_all q full (loop_calls q full k m) m tt))
+      subst (λ (x : Search (shape q)). Looped x (stepping (Ok (state_of q m)) u)) (sym (stay_all q full (loop_calls q full k m) m tt))
       (record { answer = refl; inv = I; ok = K; own = O; finished = tt })
   turn k go (n ∷ r) se gi vi sp un false ow u I K O (inl t) = absurd t
   turn k go (n ∷ r) se gi vi sp un false ow u I K O (inr h) =
@@ -172,11 +170,11 @@ module _ (q : Asked) (low : (w : ℕ) (l : List Float) → length l ≡ 4 * w �
       let I1 = remember_inv q low upp full v m0 u I in
       let S = I.held.nodes in
       let e = ap (enough (needed (state_of q (start q)))) I.lengths ∙ room in
-      let asked : own_def G x u ≡ Is v = own_fields q low upp full (n ∷ r) se gi vi sp un false ow u I.numbers (λ R. (S.0.net1, S.0.net2, S.0.depth))
-      ∙ ap (λ (b : Bool). cond b (Is v) OwnNoRoom) (enough_own_lem (needed (state_of q (start q))) (sizes u) e) in
+      let asked : own_def G x u ≡ Ok v = own_fields q low upp full (n ∷ r) se gi vi sp un false ow u I.numbers (λ R. (S.0.net1, S.0.net2, S.0.depth))
+      ∙ ap (λ (b : Bool). cond b (Ok v) (Err NoRoom)) (enough_own_lem (needed (state_of q (start q))) (sizes u) e) in
       let z = after_sim m1 u (step_outcome x o) (rule_with q true v m1) I1
       (subst (λ (b : Bool). StepSim q (step_outcome x o) (rule_with q b v m1) m1 u) e (step_sim q low upp m1 u v I1.numbers (λ R. I1.held))) in
-      let a : o.answer ≡ Next (state_of q m2) = next_of o.answer (Next (state_of q m2)) z.0 in
+      let a : o.answer ≡ Ok (state_of q m2) = next_of o.answer (Ok (state_of q m2)) z.0 in
       let p : run_for G (suc k) x u ≡ run_for G k (state_of q m2) o.memory
       = (λ i. turned (run_for G k) x (carried_out G x u (asked i))) ∙ (λ i. turned (run_for G k) x (stepping (a i) o.memory)) in
       subst (Looped (turned_from (suc k) m0)) (sym p)
@@ -184,7 +182,7 @@ module _ (q : Asked) (low : (w : ℕ) (l : List Float) → length l ≡ 4 * w �
       (go m2 o.memory z.1 (ok_advance q v m1 (ok_remember q v m0 refl K)) (settled_own v n r se gi vi sp un O)
       (lower_rest v n r se gi vi sp un k (remembered_as (shape q) v) h)))
 
-  loop : (k : ℕ) (m : Search (shape q)) (u : Memory) → Inv q full m u → Ok q m → AllOwn q m.settled → T (ended (shape q) m) ⊎ (rest q m < k)
+  loop : (k : ℕ) (m : Search (shape q)) (u : Memory) → Inv q full m u → Upheld q m → AllOwn q m.settled → T (ended (shape q) m) ⊎ (rest q m < k)
       → Looped (turned_from k m) (run_for q.geometry k (state_of q m) u)
   loop zero m u I K O (inl t) = record { answer = refl; inv = I; ok = K; own = O; finished = t }
   loop zero m u I K O (inr h) = absurd (omega arith)
@@ -195,14 +193,19 @@ module _ (q : Asked) (low : (w : ℕ) (l : List Float) → length l ≡ 4 * w �
   from_start u F I = loop (2 * (start q).unspent + length (start q).stack + 1) (start q) u I (ok_start q F) tt (inr (omega arith))
 
 -- ---- the word
-told-word : (G : Geometry) (x : State) (u : Memory) (out : Output) (w : Word) (c : Counts) (k : ℕ) → (report_def G x u out).answer ≡ Told w c k
+-- the word of an answer that is no refusal
+abbrev word_in : Word → Result Summary ReportError → Word
+word_in w (Ok s) = s.word
+word_in w (Err e) = w
+
+told-word : (G : Geometry) (x : State) (u : Memory) (out : Output) (w : Word) (c : Counts) (k : ℕ) → (report_def G x u out).answer ≡ summary_of w c k
     → word_for x.tally.given x.tally.waiting ≡ w
 told-word G x u out w c k e = go (over x.tally) (enough (needed x) (sizes u) && out_room (records_of x.tally) out && is_search x u) e
   where
     go : (a b : Bool)
-        → (cond {A = Reporting} a (cond b (write_report G x u out) (reporting ReportNoRoom u out)) (reporting Running u out)).answer ≡ Told w c k
+        → (cond {A = Reporting} a (cond b (write_report G x u out) (reporting (Err ReportNoRoom) u out)) (reporting (Err Running) u out)).answer ≡ summary_of w c k
         → word_for x.tally.given x.tally.waiting ≡ w
-    go true true e = cc
+    go true true e = ap (word_in w) e
     go true false e = absurd (let z : ◌≡◌ {A = ℕ} 0 1 = cc in omega arith)
     go false b e = absurd (let z : ◌≡◌ {A = ℕ} 0 1 = cc in omega arith)
 
@@ -215,7 +218,7 @@ all_pass : (q : Asked) (l : List (Settling (shape q))) → All (Cleared q) l →
 all_pass q [] c o = tt
 all_pass q (e ∷ l) c o = ((o.0, c.0 e.tag o.0), all_pass q l c.1 o.1)
 
-clear_all : (q : Asked) (full : Sizes) → Ok q (looped q full) → AllOwn q (looped q full).settled
+clear_all : (q : Asked) (full : Sizes) → Upheld q (looped q full) → AllOwn q (looped q full).settled
     → length (looped q full).given ≡ 0 → length (looped q full).stack ≡ 0 → Clear q full
 clear_all q full K O g l = record { pass = all_pass q (looped q full).settled K.cleared O; held = λ s t a b. by s t (K.covered s t a b) }
   where
@@ -227,10 +230,10 @@ clear_all q full K O g l = record { pass = all_pass q (looped q full).settled K.
     by s t (by_waiting h) = absurd (none_in (InNode (shape q) s t) (looped q full).stack l h)
 
 -- ---- the report after the loop
-same_answer : (a b : Reported) (l m : Output) → ◌≡◌ {A = Answer} (reported a l) (reported b m) → a ≡ b
+same_answer : (a b : Result Summary ReportError) (l m : Output) → ◌≡◌ {A = Answer} (reported a l) (reported b m) → a ≡ b
 same_answer a b l m e = cc
 
-same_out : (a b : Reported) (l m : Output) → ◌≡◌ {A = Answer} (reported a l) (reported b m) → l ≡ m
+same_out : (a b : Result Summary ReportError) (l m : Output) → ◌≡◌ {A = Answer} (reported a l) (reported b m) → l ≡ m
 same_out a b l m e = cc
 
 sim_answer : (q : Asked) (o : Outcome) (r : Ruled q) (m : Search (shape q)) (w : Memory) → StepSim q o r m w → o.answer ≡ r.answer
@@ -241,7 +244,7 @@ module _ (q : Asked) (full : Sizes) (room : enough (needed (state_of q (start q)
     (I : Inv q full m w) (E : T (ended (shape q) m))
     (out : Output) (fits : out_room (records_for q) out ≡ true) where
   told_all : ◌≡◌ {A = Answer} (reported (report_def q.geometry (state_of q m) w out).answer (report_def q.geometry (state_of q m) w out).output)
-      (reported (Told (word_for (length m.given) (length m.stack)) (result_of q m) (length (merged merging (raw_list q m))))
+      (reported (summary_of (word_for (length m.given) (length m.stack)) (result_of q m) (length (merged merging (raw_list q m))))
       (written q.terms (length m.given + length m.stack) (merged merging (raw_list q m)) out))
   told_all =
       let o = report_outcome (state_of q m) (report_def q.geometry (state_of q m) w out) in
@@ -252,17 +255,17 @@ module _ (q : Asked) (full : Sizes) (room : enough (needed (state_of q (start q)
     where
       go : (a b c : Bool) → T a → b ≡ true → c ≡ true
           → cond {A = Answer} a (cond (b && c) (reported
-          (Told (word_for (length m.given) (length m.stack)) (result_of q m) (length (merged merging (raw_list q m))))
-          (written q.terms (length m.given + length m.stack) (merged merging (raw_list q m)) out)) (reported ReportNoRoom out))
-          (reported Running out)
-          ≡ reported (Told (word_for (length m.given) (length m.stack)) (result_of q m) (length (merged merging (raw_list q m))))
+          (summary_of (word_for (length m.given) (length m.stack)) (result_of q m) (length (merged merging (raw_list q m))))
+          (written q.terms (length m.given + length m.stack) (merged merging (raw_list q m)) out)) (reported (Err ReportNoRoom) out))
+          (reported (Err Running) out)
+          ≡ reported (summary_of (word_for (length m.given) (length m.stack)) (result_of q m) (length (merged merging (raw_list q m))))
           (written q.terms (length m.given + length m.stack) (merged merging (raw_list q m)) out)
       go true true true t e f = refl
       go true true false t e f = absurd (false≢true f)
       go true false c t e f = absurd (false≢true e)
       go false b c t e f = absurd t
 
-reports_all : (q : Asked) (full : Sizes) → enough (needed (state_of q (start q))) full ≡ true → (w : Memory) → Inv q full (looped q full) w → Ok q (looped q full)
+reports_all : (q : Asked) (full : Sizes) → enough (needed (state_of q (start q))) full ≡ true → (w : Memory) → Inv q full (looped q full) w → Upheld q (looped q full)
     → AllOwn q (looped q full).settled → T (ended (shape q) (looped q full)) → (out : Output)
     → out_room (records_for q) out ≡ true → Reports q full (report_def q.geometry (state_of q (looped q full)) w out)
 reports_all q full room w I K O E out fits =
@@ -284,13 +287,10 @@ reports_all q full room w I K O E out fits =
 abbrev Claims : (q : Asked) → Sizes → State → Memory → Type 0
 Claims q full x u =
     Ends q full (run_def q.geometry x u)
-    × ((y : State) → (run_def q.geometry x u).answer ≡ Next y → (out : Output) (c : Counts) (k : ℕ)
-    → (report_def q.geometry y (run_def q.geometry x u).memory out).answer ≡ Told Complete c k → Clear q full)
-    × ((y : State) → (run_def q.geometry x u).answer ≡ Next y → (out : Output) → records_of x.tally * 10 ≤ length out.regions → records_of x.tally ≤ length out.marks
+    × ((y : State) → (run_def q.geometry x u).answer ≡ Ok y → (out : Output) (c : Counts) (k : ℕ)
+    → (report_def q.geometry y (run_def q.geometry x u).memory out).answer ≡ summary_of Complete c k → Clear q full)
+    × ((y : State) → (run_def q.geometry x u).answer ≡ Ok y → (out : Output) → records_of x.tally * 10 ≤ length out.regions → records_of x.tally ≤ length out.marks
     → Reports q full (report_def q.geometry y (run_def q.geometry x u).memory out))
-
-pub same_next : (x y : State) → Next x ≡ Next y → x ≡ y
-same_next x y e = cc
 
 module _ (q : Asked) (u : Memory) (F : Fine q) (room : T (enough (needed (state_of q (start q))) (sizes u))) where
   pub loop_claims : Claims q (sizes u) (state_of q (start q)) (open_memory q u)
@@ -299,12 +299,12 @@ module _ (q : Asked) (u : Memory) (F : Fine q) (room : T (enough (needed (state_
       (open_memory q u) F (open_inv q u F room) in (
         record { answer = L.answer; finished = L.finished },
         λ y e out c k r.
-            let s = same_next y (state_of q (looped q (sizes u))) (sym e ∙ L.answer) in
+            let s = same_ok y (state_of q (looped q (sizes u))) (sym e ∙ L.answer) in
             let w = told-word q.geometry y (run_def q.geometry (state_of q (start q)) (open_memory q u)).memory out Complete c k r in
             let z = (word_exact (length (looped q (sizes u)).given) (length (looped q (sizes u)).stack)).0 (subst (λ (x : State). word_for x.tally.given x.tally.waiting ≡ Complete) s w) in
             clear_all q (sizes u) L.ok L.own z.0 z.1,
         λ y e out h k.
-            let s = same_next y (state_of q (looped q (sizes u))) (sym e ∙ L.answer) in
+            let s = same_ok y (state_of q (looped q (sizes u))) (sym e ∙ L.answer) in
             let w = (run_def q.geometry (state_of q (start q)) (open_memory q u)).memory in
             subst (λ (x : State). Reports q (sizes u) (report_def q.geometry x w out)) (sym s)
             (reports_all q (sizes u) (as_true (enough (needed (state_of q (start q))) (sizes u)) room) w L.inv L.ok L.own L.finished out
@@ -322,12 +322,12 @@ loop_reports q p1 p2 u x y e r = (opened_fresh q p1 p2 u x (λ (y : State) (m : 
 
 -- ---- what is told is the loop's, and nothing else
 -- no other marks are as `GoodReport.marked` says
-marks_one : (t : Terms) (out rs : List Region) (k : ℕ) (marks : List ℕ) → k ≡ length out → out ≡ rs → Marked k (near_at (seam_of1 t) (seam_of2 t) out) (take k marks)
+marks_one : (t : Terms) (out rs : List Region) (k : ℕ) (marks : List ℕ) → k ≡ length out → out ≡ rs → Marked k (near_at (seam_of First t) (seam_of Second t) out) (take k marks)
     → take k marks ≡ marks_for t rs
 marks_one t out rs k marks e f g =
-    let near = near_at (seam_of1 t) (seam_of2 t) in
+    let near = near_at (seam_of First t) (seam_of Second t) in
     marked_only k (near out) (take k marks) (marks_of k (near out)) g
-    (subst (λ (n : ℕ). Marked n (near out) (marks_of n (near out))) (sym e) (region_marks (seam_of1 t) (seam_of2 t) out))
+    (subst (λ (n : ℕ). Marked n (near out) (marks_of n (near out))) (sym e) (region_marks (seam_of First t) (seam_of Second t) out))
     ∙ (λ i. marks_of ((e ∙ ap length f) i) (near (f i)))
 
 pub one_report : OneReport

@@ -15,8 +15,6 @@ use Rattle.lists.proofs.Members.{any_left, any_right, any_reverse, all_append, a
 use Rattle.verdicts.specs.declared.Verdict.{Verdict}
 use Rattle.verdicts.specs.declared.Test.{Test}
 use Rattle.verdicts.specs.declared.Verdict.TheVariants.{Settled, Split, Unseparated}
-use Rattle.verdicts.specs.declared.Choice.{Choice}
-use Rattle.verdicts.specs.declared.Choice.TheVariants.{First, Second, Neither}
 use Rattle.machine.specs.Machine.{Node, Settling, Search, half, part_of, Shallow, choice_of, InNode, ended, divide, on_top, advance, not_settled, settled_by, remembered_as, remember}
 use Rattle.machine.specs.Merge.{merged}
 use Rattle.machine.specs.Covered.{Covered, by_boxes, by_settled, by_given, by_waiting}
@@ -31,24 +29,25 @@ use Rattle.regions.specs.declared.Word.TheVariants.{Complete}
 use Rattle.regions.specs.Stations.{InRegion}
 use Rattle.regions.specs.Regions.{touches_of, merging, flats}
 use Rattle.regions.specs.Reports.{word_for, report_slice}
-use Rattle.terms.specs.Terms.{seam_of1, seam_of2}
+use Rattle.terms.specs.Terms.{seam_of}
 use Rattle.stretches.proofs.Marked.{report_marked}
-use Rattle.report.specs.Reports.{Output, out_room, written}
+use Rattle.report.specs.Reports.{summary_of, Output, out_room, written}
 use Rattle.states.specs.declared.State.{State}
-use Rattle.search.specs.declared.Stepped.TheVariants.{Next, Ended, NoRoom}
-use Rattle.search.specs.declared.Own.{Own}
-use Rattle.search.specs.declared.Own.TheVariants.{Is, Ended as OwnEnded, NoRoom as OwnNoRoom}
 use Rattle.nodes.specs.Geometry.{region_of}
 use Rattle.states.specs.States.{Memory, Sizes, sizes, needed, enough, allowance_of}
-use Rattle.search.specs.Steps.{halves}
-use Rattle.report.specs.declared.Reported.TheVariants.{Told, Running, NoRoom as ReportNoRoom}
 use Rattle.coverage.specs.Calls.{Call, step, own, report, Answer, stepped, judged, reported, run_all}
 use Rattle.opening.specs.Asked.{Asked, shape, pieces1, pieces2, In1, In2, pairs_of, start, state_of, result_of, net_of1, net_of2, open_memory, raw_list, allowance_for, records_for}
 use Rattle.coverage.specs.Rules.{Ruled, suffices, suffices_own, step_rule, test_top, own_rule, after_own, report_rule, call_rule, rule_all}
 use Rattle.coverage.specs.Claim.{bound, Accounted, GoodAnswer, DepthsFit, After, Fine, GoodReport}
-use Rattle.coverage.proofs.Refine.{flats-length, search}
+use Rattle.coverage.proofs.Refine.{flats-length}
 use Rattle.coverage.proofs.Chain.{chain}
 use Rattle.coverage.proofs.Opening.{all_pieces, open_inv}
+use Rattle.verdicts.specs.declared.Side.{Side}
+use Rattle.verdicts.specs.declared.Side.TheVariants.{First, Second}
+use Rattle.states.specs.declared.StepError.{StepError}
+use Rattle.states.specs.declared.StepError.TheVariants.{Ended, NoRoom}
+use Rattle.report.specs.declared.ReportError.TheVariants.{Running, NoRoom as ReportNoRoom}
+use Rattle.std.proofs.Common.{Option, Some, None, Result, Ok, Err}
 
 -- ---- floats: a half keeps each station
 abbrev SoundPiece : Piece → Type 0
@@ -115,7 +114,7 @@ abbrev pub Says : (q : Asked) → Verdict → List (Node (shape q)) → Type 0
 Says q v [] = Unit {0}
 Says q v (n ∷ r) = q.geometry.clearing q.gap (net_of1 q n) (net_of2 q n) ≡ v
 
-pub record Ok (q : Asked) (m : Search (shape q)) : Type 0 where
+pub record Upheld (q : Asked) (m : Search (shape q)) : Type 0 where
   pub covered : (s t : Float) → In1 q s → In2 q t → Covered (shape q) (pieces1 q) (pieces2 q) m s t
   pub sound : All (SoundNode (shape q) (halving q)) m.stack
   pub sound_given : All (SoundNode (shape q) (halving q)) m.given
@@ -123,14 +122,12 @@ pub record Ok (q : Asked) (m : Search (shape q)) : Type 0 where
   pub honest : (t : Test) → m.own ≡ settled_by t → Says q (Settled t) m.stack
 
 module _ (q : Asked) where
-  given_divide : (d : Choice) (k : ℕ) (n : Node (shape q)) (r : List (Node (shape q))) (m : Search (shape q)) → SoundNode (shape q) (halving q) n
+  given_divide : (d : Option Side) (k : ℕ) (n : Node (shape q)) (r : List (Node (shape q))) (m : Search (shape q)) → SoundNode (shape q) (halving q) n
       → All (SoundNode (shape q) (halving q)) m.given
       → All (SoundNode (shape q) (halving q)) (divide (shape q) d k n r m).given
-  given_divide Neither k n r m w g = all_append (SoundNode (shape q) (halving q)) m.given (n ∷ []) g (w, tt)
-  given_divide First zero n r m w g = g
-  given_divide First (suc k) n r m w g = g
-  given_divide Second zero n r m w g = g
-  given_divide Second (suc k) n r m w g = g
+  given_divide None k n r m w g = all_append (SoundNode (shape q) (halving q)) m.given (n ∷ []) g (w, tt)
+  given_divide (Some line) zero n r m w g = g
+  given_divide (Some line) (suc k) n r m w g = g
 
   given_top : (v : Verdict) (l : List (Node (shape q))) (m : Search (shape q)) → All (SoundNode (shape q) (halving q)) l
       → All (SoundNode (shape q) (halving q)) m.given
@@ -161,7 +158,7 @@ module _ (q : Asked) where
   honest_top Split (n ∷ r) m e f t o = absurd (forgotten t (sym (divide_own (shape q) (choice_of (shape q) n) m.unspent n r m) ∙ o))
   honest_top Unseparated (n ∷ r) m e f t o = absurd (forgotten t o)
 
-  pub ok_advance : (v : Verdict) (m : Search (shape q)) → Ok q m → Ok q (advance (shape q) v m)
+  pub ok_advance : (v : Verdict) (m : Search (shape q)) → Upheld q m → Upheld q (advance (shape q) v m)
   ok_advance v m k = record {
     covered = λ s t a b. cover_advance (shape q) (halving q) (pieces1 q) (pieces2 q) s t v m k.sound (k.covered s t a b);
     sound = sound_advance (shape q) (halving q) v m k.sound;
@@ -182,7 +179,7 @@ module _ (q : Asked) where
   said_settle Split l h t e = absurd (forgotten t e)
   said_settle Unseparated l h t e = absurd (forgotten t e)
 
-  pub ok_remember : (v : Verdict) (m : Search (shape q)) → Says q v m.stack → Ok q m → Ok q (remember (shape q) v m)
+  pub ok_remember : (v : Verdict) (m : Search (shape q)) → Says q v m.stack → Upheld q m → Upheld q (remember (shape q) v m)
   ok_remember v m h k = record {
     covered = λ s t a b. keep_covered v m s t (k.covered s t a b);
     sound = k.sound;
@@ -192,39 +189,38 @@ module _ (q : Asked) where
   }
 
   module _ (full : Sizes) where
-    ok_step : (v : Verdict) (n : Sizes) (m : Search (shape q)) → Ok q m → Ok q (step_rule q full v n m).search
+    ok_step : (v : Verdict) (n : Sizes) (m : Search (shape q)) → Upheld q m → Upheld q (step_rule q full v n m).search
     ok_step v n m k = go (ended (shape q) m) (suffices q full n)
       where
         go : (a b : Bool)
-            → Ok q (cond {A = Ruled q} a (record { answer = stepped Ended; search = m })
-            (cond b (record { answer = stepped (Next (state_of q (advance (shape q) v m))); search = advance (shape q) v m }) (record { answer = stepped NoRoom; search = m }))).search
+            → Upheld q (cond {A = Ruled q} a (record { answer = stepped (Err Ended); search = m })
+            (cond b (record { answer = stepped (Ok (state_of q (advance (shape q) v m))); search = advance (shape q) v m }) (record { answer = stepped (Err NoRoom); search = m }))).search
         go true b = k
         go false true = ok_advance v m k
         go false false = k
 
-    judged_inv : (l : List (Node (shape q))) (v : Verdict) → test_top q l ≡ Is v → Says q v l
+    judged_inv : (l : List (Node (shape q))) (v : Verdict) → test_top q l ≡ Ok v → Says q v l
     judged_inv [] v e = tt
     judged_inv (n ∷ r) v e = cc
 
-    own_says : (n : Sizes) (m : Search (shape q)) (v : Verdict) → own_rule q full n m ≡ Is v → Says q v m.stack
+    own_says : (n : Sizes) (m : Search (shape q)) (v : Verdict) → own_rule q full n m ≡ Ok v → Says q v m.stack
     own_says n m v e = go (ended (shape q) m) (suffices_own q full n) e
       where
-        go : (a b : Bool) → cond a OwnEnded (cond b (test_top q m.stack) OwnNoRoom) ≡ Is v → Says q v m.stack
+        go : (a b : Bool) → cond a (Err Ended) (cond b (test_top q m.stack) (Err NoRoom)) ≡ Ok v → Says q v m.stack
         go true b e = absurd (let z : ◌≡◌ {A = ℕ} 0 1 = cc in omega arith)
         go false true e = judged_inv m.stack v e
         go false false e = absurd (let z : ◌≡◌ {A = ℕ} 0 1 = cc in omega arith)
 
-    ok_own : (a : Own) (m : Search (shape q)) → ((v : Verdict) → a ≡ Is v → Says q v m.stack) → Ok q m → Ok q (after_own q a m)
-    ok_own (Is v) m f k = ok_remember v m (f v refl) k
-    ok_own OwnEnded m f k = k
-    ok_own OwnNoRoom m f k = k
+    ok_own : (a : Result Verdict StepError) (m : Search (shape q)) → ((v : Verdict) → a ≡ Ok v → Says q v m.stack) → Upheld q m → Upheld q (after_own q a m)
+    ok_own (Ok v) m f k = ok_remember v m (f v refl) k
+    ok_own (Err e) m f k = k
 
-    ok_call : (c : Call) (m : Search (shape q)) → Ok q m → Ok q (call_rule q full c m).search
+    ok_call : (c : Call) (m : Search (shape q)) → Upheld q m → Upheld q (call_rule q full c m).search
     ok_call (step v n) m k = ok_step v n m k
     ok_call (own n) m k = ok_own (own_rule q full n m) m (own_says n m) k
     ok_call (report n out) m k = k
 
-    ok_all : (cs : List Call) (m : Search (shape q)) → Ok q m → Ok q (rule_all q full cs m).search
+    ok_all : (cs : List Call) (m : Search (shape q)) → Upheld q m → Upheld q (rule_all q full cs m).search
     ok_all [] m k = k
     ok_all (c ∷ cs) m k = ok_all cs (call_rule q full c m).search (ok_call c m k)
 
@@ -249,12 +245,12 @@ in_regions q s t [] h = absurd h
 in_regions q s t (n ∷ l) (inl x) = inl x
 in_regions q s t (n ∷ l) (inr y) = inr (in_regions q s t l y)
 
-raw_valid : (q : Asked) (m : Search (shape q)) → Ok q m → All Ends (raw_list q m)
+raw_valid : (q : Asked) (m : Search (shape q)) → Upheld q m → All Ends (raw_list q m)
 raw_valid q m k =
     regions_valid q (m.given ++ reverse m.stack) (all_append (SoundNode (shape q) (halving q)) m.given (reverse m.stack) k.sound_given
     (all_reverse (SoundNode (shape q) (halving q)) m.stack k.sound))
 
-account : (q : Asked) (m : Search (shape q)) → Ok q m → (s t : Float) → Covered (shape q) (pieces1 q) (pieces2 q) m s t → Accounted q m (merged merging (raw_list q m)) s t
+account : (q : Asked) (m : Search (shape q)) → Upheld q m → (s t : Float) → Covered (shape q) (pieces1 q) (pieces2 q) m s t → Accounted q m (merged merging (raw_list q m)) s t
 unfolding keeping
 account q m k s t (by_boxes h) = inl h
 account q m k s t (by_settled h) = inr (inl h)
@@ -282,7 +278,7 @@ slice_reads n out slice =
     let rest = drop (0 + length (flats out ++ z)) slice in
     ap (take (length out * 10)) (append_assoc (flats out) z rest) ∙ take_at (flats out) (z ++ rest) (length out * 10) (flats-length out)
 
-pub good_report : (q : Asked) (m : Search (shape q)) (out : Output) → Ok q m → T (ended (shape q) m)
+pub good_report : (q : Asked) (m : Search (shape q)) (out : Output) → Upheld q m → T (ended (shape q) m)
     → GoodReport q m (word_for (length m.given) (length m.stack)) (result_of q m) (length (merged merging (raw_list q m)))
     (written q.terms (length m.given + length m.stack) (merged merging (raw_list q m)) out)
 good_report q m out k e =
@@ -297,7 +293,7 @@ good_report q m out k e =
       named = refl;
       accounted = λ s t a b. account q m k s t (k.covered s t a b);
       disjoint = merged_off merging off_comm raws;
-      marked = report_marked (seam_of1 q.terms) (seam_of2 q.terms) (merged merging raws) out.marks;
+      marked = report_marked (seam_of First q.terms) (seam_of Second q.terms) (merged merging raws) out.marks;
       tags = sym (tags_sum_lem (shape q) m.settled);
       exact =
           subst (λ (x : ℕ). (word_for (length m.given) (length m.stack) ≡ Complete) ↔ ((length m.given ≡ 0) × (x ≡ 0)))
@@ -309,8 +305,8 @@ module _ (q : Asked) (full : Sizes) where
   good_step v n m m' = go (ended (shape q) m) (suffices q full n)
     where
       go : (a b : Bool)
-          → GoodAnswer q m' (cond {A = Ruled q} a (record { answer = stepped Ended; search = m })
-          (cond b (record { answer = stepped (Next (state_of q (advance (shape q) v m))); search = advance (shape q) v m }) (record { answer = stepped NoRoom; search = m }))).answer
+          → GoodAnswer q m' (cond {A = Ruled q} a (record { answer = stepped (Err Ended); search = m })
+          (cond b (record { answer = stepped (Ok (state_of q (advance (shape q) v m))); search = advance (shape q) v m }) (record { answer = stepped (Err NoRoom); search = m }))).answer
       go true b = tt
       go false true = tt
       go false false = tt
@@ -318,13 +314,13 @@ module _ (q : Asked) (full : Sizes) where
   good_own : (n : Sizes) (m m' : Search (shape q)) → GoodAnswer q m' (judged (own_rule q full n m))
   good_own n m m' = go (ended (shape q) m) (suffices_own q full n) m.stack
     where
-      go : (a b : Bool) (l : List (Node (shape q))) → GoodAnswer q m' (judged (cond a OwnEnded (cond b (test_top q l) OwnNoRoom)))
+      go : (a b : Bool) (l : List (Node (shape q))) → GoodAnswer q m' (judged (cond a (Err Ended) (cond b (test_top q l) (Err NoRoom))))
       go true b l = tt
       go false false l = tt
       go false true [] = tt
       go false true (x ∷ l) = tt
 
-  good_rep : (n : Sizes) (out : Output) (m : Search (shape q)) → Ok q m → GoodAnswer q m (report_rule q full n out m)
+  good_rep : (n : Sizes) (out : Output) (m : Search (shape q)) → Upheld q m → GoodAnswer q m (report_rule q full n out m)
   good_rep n out m k =
       go (ended (shape q) m) (suffices q full n && out_room (records_for q) out)
       (λ (t : T (ended (shape q) m)). good_report q m out k t)
@@ -334,9 +330,9 @@ module _ (q : Asked) (full : Sizes) where
           → GoodReport q m (word_for (length m.given) (length m.stack)) (result_of q m) (length (merged merging (raw_list q m)))
           (written q.terms (length m.given + length m.stack) (merged merging (raw_list q m)) out))
           → GoodAnswer q m (cond a (cond b
-          (reported (Told (word_for (length m.given) (length m.stack)) (result_of q m) (length (merged merging (raw_list q m))))
+          (reported (summary_of (word_for (length m.given) (length m.stack)) (result_of q m) (length (merged merging (raw_list q m))))
           (written q.terms (length m.given + length m.stack) (merged merging (raw_list q m)) out))
-          (reported ReportNoRoom out)) (reported Running out))
+          (reported (Err ReportNoRoom) out)) (reported (Err Running) out))
       go false b f = tt
       go true false f = tt
       go true true f = f tt
@@ -346,8 +342,8 @@ module _ (q : Asked) (full : Sizes) where
   stay_step v n m t = go (ended (shape q) m) (suffices q full n) t
     where
       go : (a b : Bool) → T a
-          → (cond {A = Ruled q} a (record { answer = stepped Ended; search = m })
-          (cond b (record { answer = stepped (Next (state_of q (advance (shape q) v m))); search = advance (shape q) v m }) (record { answer = stepped NoRoom; search = m }))).search
+          → (cond {A = Ruled q} a (record { answer = stepped (Err Ended); search = m })
+          (cond b (record { answer = stepped (Ok (state_of q (advance (shape q) v m))); search = advance (shape q) v m }) (record { answer = stepped (Err NoRoom); search = m }))).search
           ≡ m
       go true b t = refl
       go false b t = absurd t
@@ -355,7 +351,7 @@ module _ (q : Asked) (full : Sizes) where
   stay_own : (n : Sizes) (m : Search (shape q)) → T (ended (shape q) m) → after_own q (own_rule q full n m) m ≡ m
   stay_own n m t = go (ended (shape q) m) t
     where
-      go : (a : Bool) → T a → after_own q (cond a OwnEnded (cond (suffices_own q full n) (test_top q m.stack) OwnNoRoom)) m ≡ m
+      go : (a : Bool) → T a → after_own q (cond a (Err Ended) (cond (suffices_own q full n) (test_top q m.stack) (Err NoRoom))) m ≡ m
       go true t = refl
       go false t = absurd t
 
@@ -376,16 +372,16 @@ module _ (q : Asked) (full : Sizes) where
   later : (cs : List Call) (m : Search (shape q)) (a : Answer) → GoodAnswer q m a → GoodAnswer q (rule_all q full cs m).search a
   later cs m (stepped a) h = tt
   later cs m (judged a) h = tt
-  later cs m (reported (Told w c i) l) h = subst (λ (x : Search (shape q)). GoodReport q x w c i l) (sym (stay_all cs m h.finished)) h
-  later cs m (reported Running l) h = tt
-  later cs m (reported ReportNoRoom l) h = tt
+  later cs m (reported (Ok s) l) h = subst (λ (x : Search (shape q)). GoodReport q x s.word s.counts s.regions l) (sym (stay_all cs m h.finished)) h
+  later cs m (reported (Err Running) l) h = tt
+  later cs m (reported (Err ReportNoRoom) l) h = tt
 
-  good_call : (c : Call) (m : Search (shape q)) → Ok q m → GoodAnswer q (call_rule q full c m).search (call_rule q full c m).answer
+  good_call : (c : Call) (m : Search (shape q)) → Upheld q m → GoodAnswer q (call_rule q full c m).search (call_rule q full c m).answer
   good_call (step v n) m k = good_step v n m (step_rule q full v n m).search
   good_call (own n) m k = good_own n m (after_own q (own_rule q full n m) m)
   good_call (report n out) m k = good_rep n out m k
 
-  good_all : (cs : List Call) (m : Search (shape q)) → Ok q m → All (GoodAnswer q (rule_all q full cs m).search) (rule_all q full cs m).answers
+  good_all : (cs : List Call) (m : Search (shape q)) → Upheld q m → All (GoodAnswer q (rule_all q full cs m).search) (rule_all q full cs m).answers
   good_all [] m k = tt
   good_all (c ∷ cs) m k = (
     later cs (call_rule q full c m).search (call_rule q full c m).answer (good_call c m k),
@@ -393,7 +389,7 @@ module _ (q : Asked) (full : Sizes) where
   )
 
 -- ---- the whole
-pub ok_start : (q : Asked) → Fine q → Ok q (start q)
+pub ok_start : (q : Asked) → Fine q → Upheld q (start q)
 unfolding halving
 ok_start q O = record {
   covered = λ s t a b. cover_fresh (shape q) s t (pieces1 q) (pieces2 q) (allowance_for q) (O.covers1 s a) (O.covers2 t b);

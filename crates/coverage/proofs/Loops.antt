@@ -9,17 +9,16 @@ use lib.Seq.{take_all}
 use Rattle.verdicts.specs.declared.Verdict.{Verdict}
 use Rattle.states.specs.declared.State.{State}
 use Rattle.states.specs.States.{Memory, sizes, over}
-use Rattle.search.specs.declared.Stepped.{Stepped}
-use Rattle.search.specs.declared.Stepped.TheVariants.{Next, Ended, NoRoom}
-use Rattle.search.specs.declared.Own.{Own}
-use Rattle.search.specs.declared.Own.TheVariants.{Is, Ended as OwnEnded, NoRoom as OwnNoRoom}
 use Rattle.nodes.specs.Geometry.{Geometry}
 use Rattle.nodes.specs.Nets.{geometry}
 use Rattle.search.specs.Steps.{Stepping, stepping, step_def, own_def}
 use Rattle.search.specs.Runs.{carried_out, turned, run_for}
 use Rattle.coverage.specs.Calls.{Call, step, Outcome, step_outcome, lend, give_back, back_in, call, run_all}
 use Rattle.coverage.specs.Complete.{turn_calls, loop_on, RunIsCalls}
-use Rattle.coverage.proofs.Complete.{same_next}
+use Rattle.opening.proofs.Acts.{failed}
+use Rattle.coverage.proofs.Demand3.{same_ok}
+use Rattle.states.specs.declared.StepError.{StepError}
+use Rattle.std.proofs.Common.{Result, Ok, Err}
 
 -- ---- a step that is lent the whole memory
 drop_none : {A : Type 0} (l : List A) → drop (length l) l ≡ []
@@ -60,27 +59,25 @@ abbrev Runs : Geometry → List Call → State → Memory → State → Memory �
 Runs G cs x u y w = ((run_all G cs x u).state ≡ y) × ((run_all G cs x u).memory ≡ w)
 
 -- the loop's list where the own verdict is o
-abbrev turn_for : Geometry → ℕ → State → Memory → Own → List Call
+abbrev turn_for : Geometry → ℕ → State → Memory → Result Verdict StepError → List Call
 turn_for G n x u o = let turn = turn_calls (sizes u) o in let r = run_all G turn x u in turn ++ loop_on G n r.state r.memory
 
-module _ (G : Geometry) (n : ℕ) (go : (x y : State) (u : Memory) → (run_for G n x u).answer ≡ Next y → Runs G (loop_on G n x u) x u y (run_for G n x u).memory) where
-  finish : (x y : State) (a : Stepped) (w : Memory) → (turned (run_for G n) x (stepping a w)).answer ≡ Next y
+module _ (G : Geometry) (n : ℕ) (go : (x y : State) (u : Memory) → (run_for G n x u).answer ≡ Ok y → Runs G (loop_on G n x u) x u y (run_for G n x u).memory) where
+  finish : (x y : State) (a : Result State StepError) (w : Memory) → (turned (run_for G n) x (stepping a w)).answer ≡ Ok y
       → let o = step_outcome x (stepping a w) in Runs G (loop_on G n o.state o.memory) o.state o.memory y (turned (run_for G n) x (stepping a w)).memory
-  finish x y (Next z) w e = go z y w e
-  finish x y Ended w e = absurd (let z : ◌≡◌ {A = ℕ} 0 1 = cc in omega arith)
-  finish x y NoRoom w e = absurd (let z : ◌≡◌ {A = ℕ} 0 1 = cc in omega arith)
+  finish x y (Ok z) w e = go z y w e
+  finish x y (Err k) w e = failed e
 
-  turn : (x y : State) (u : Memory) (b : Bool) (o : Own) → (cond {A = Stepping} b (stepping (Next x) u) (turned (run_for G n) x (carried_out G x u o))).answer ≡ Next y
-      → Runs G (cond b [] (turn_for G n x u o)) x u y (cond {A = Stepping} b (stepping (Next x) u) (turned (run_for G n) x (carried_out G x u o))).memory
-  turn x y u true o e = (same_next x y e, refl)
-  turn x y u false (Is v) e =
+  turn : (x y : State) (u : Memory) (b : Bool) (o : Result Verdict StepError) → (cond {A = Stepping} b (stepping (Ok x) u) (turned (run_for G n) x (carried_out G x u o))).answer ≡ Ok y
+      → Runs G (cond b [] (turn_for G n x u o)) x u y (cond {A = Stepping} b (stepping (Ok x) u) (turned (run_for G n) x (carried_out G x u o))).memory
+  turn x y u true o e = (same_ok x y e, refl)
+  turn x y u false (Ok v) e =
       subst (λ (o : Outcome). Runs G (loop_on G n o.state o.memory) o.state o.memory y (turned (run_for G n) x (step_def G x u v)).memory)
       (sym (call-whole G v x u)) (finish x y (step_def G x u v).answer (step_def G x u v).memory e)
-  turn x y u false OwnEnded e = absurd (let z : ◌≡◌ {A = ℕ} 0 1 = cc in omega arith)
-  turn x y u false OwnNoRoom e = absurd (let z : ◌≡◌ {A = ℕ} 0 1 = cc in omega arith)
+  turn x y u false (Err k) e = failed e
 
-runs : (G : Geometry) (n : ℕ) (x y : State) (u : Memory) → (run_for G n x u).answer ≡ Next y → Runs G (loop_on G n x u) x u y (run_for G n x u).memory
-runs G zero x y u e = (same_next x y e, refl)
+runs : (G : Geometry) (n : ℕ) (x y : State) (u : Memory) → (run_for G n x u).answer ≡ Ok y → Runs G (loop_on G n x u) x u y (run_for G n x u).memory
+runs G zero x y u e = (same_ok x y e, refl)
 runs G (suc n) x y u e = turn G n (runs G n) x y u (over x.tally) (own_def G x u) e
 
 pub run_is_calls : RunIsCalls

@@ -81,7 +81,7 @@ module _ (q : Asked) (u : Memory) where
   rev_stored [] acc h k = k
   rev_stored (n ∷ l) acc h k = rev_stored l (n ∷ acc) h.1 (h.0, k)
 
-all_same : {B : Type 0} (P : B → Type 0) → ((n : B) → P n) → (l : List B) → All P l
+pub all_same : {B : Type 0} (P : B → Type 0) → ((n : B) → P n) → (l : List B) → All P l
 all_same P f [] = tt
 all_same P f (n ∷ l) = (f n, all_same P f l)
 

@@ -1,7 +1,7 @@
 -- The calls on state and memory answer as the rules on the search do: a step. Assumes nothing.
 use mathlib.Core.Path.{◌≡◌, refl, ap, sym, ◌∙◌, subst}
 use mathlib.Core.List.{List, [], ◌∷◌, ◌++◌, map, append_assoc}
-use mathlib.Core.Bool.{Bool, true, false, not, ◌&&◌, ◌||◌, cond}
+use mathlib.Core.Bool.{Bool, true, false, ◌&&◌, ◌||◌, cond}
 use Prim.Native.Nat.{ℕ, zero, suc, ◌+◌, ◌*◌, ◌≤◌, ◌<◌}
 use native.Mathlib.Nat.{le_refl, le_trans, mul-le-mul_right, suc-mul, add-mul}
 use native.Mathlib.Omega.{arith}
@@ -10,25 +10,23 @@ use lib.ListN.{length, take, drop, get_or, length-append, length-take, length-dr
 use lib.Seq.{length-take-le, take_at}
 use lib.Ieee.{Float, nan}
 use lib.Ieee.Fits.{and_l, and_r, and_i, eq→eqb}
+use Rattle.std.proofs.lemmas.List.{map-append}
 use Rattle.floats.specs.Stations.{Piece}
 use Rattle.lists.specs.Parts.{block, patch}
 use Rattle.lists.proofs.Parts.{patch_length, block_take, block_append, block_before, block_first, block_second}
 use Rattle.verdicts.specs.declared.Test.TheVariants.{Box, Plane, Line}
 use Rattle.verdicts.specs.declared.Verdict.{Verdict}
 use Rattle.verdicts.specs.declared.Verdict.TheVariants.{Settled, Split, Unseparated}
-use Rattle.verdicts.specs.declared.Choice.{Choice}
-use Rattle.verdicts.specs.declared.Choice.TheVariants.{First, Second, Neither}
-use Rattle.machine.specs.Machine.{Shape, Node, OwnVerdict, Settling, Search, part_of, depth1, depth2, choice_of, child, none, ended, give_up, split_along, divide, advance, tagged}
+use Rattle.machine.specs.Machine.{Shape, Node, OwnVerdict, Settling, Search, part_of, depth1, depth2, choice_of, child, none, ended, give_up, split_along, divide, advance, tagged, is_first, is_second}
 use Rattle.machine.proofs.Cover.{Deep, Below, Chosen, chosen_below, tags_sum_lem, Counts as Balance, count_advance}
 use Rattle.regions.specs.declared.Region.{Region}
 use Rattle.regions.specs.Regions.{flat, flats}
 use Rattle.states.specs.declared.State.{State}
 use Rattle.facts.proofs.Reflect.{as_true}
 use Rattle.states.proofs.Tests.{RoomAll, room_all}
-use Rattle.search.specs.declared.Stepped.TheVariants.{Next, Ended, NoRoom}
 use Rattle.nodes.specs.Geometry.{region_of}
 use Rattle.states.specs.declared.Depths.{Depths}
-use Rattle.states.specs.States.{limit, spare, Memory, memory, Sizes, sizes, needed, enough, enough_own, top_depth, is_zero, top_fits, is_search, over, counts_of, depths_of, depth_at, pair_of, deepened, allowance_of}
+use Rattle.states.specs.States.{limit, spare, Memory, Sizes, sizes, needed, enough, enough_own, top_depth, is_zero, top_fits, is_search, over, counts_of, depths_of, depth_at, pair_of, deepened, allowance_of}
 use Rattle.search.specs.Steps.{part1, part2}
 use Rattle.nodes.specs.Moves.{given_state}
 use Rattle.search.specs.Steps.{Stepping, stepping, halves, choice_at, split_memory, give_up_at, split_at, divide_at, act_on, step_def}
@@ -36,6 +34,10 @@ use Rattle.coverage.specs.Calls.{stepped, Outcome, lend, give_back, step_outcome
 use Rattle.opening.specs.Asked.{Asked, shape, pairs_of, start, state_of, result_of, depth_of, allowance_for, records_for}
 use Rattle.coverage.specs.Rules.{Ruled, lent}
 use Rattle.coverage.specs.Claim.{Stored, AllStored}
+use Rattle.verdicts.specs.declared.Side.{Side}
+use Rattle.verdicts.specs.declared.Side.TheVariants.{First, Second}
+use Rattle.states.specs.declared.StepError.TheVariants.{Ended, NoRoom}
+use Rattle.std.proofs.Common.{Option, Some, None, Ok, Err}
 
 -- ---- two memories whose first K nodes are the same
 pub record Agree (q : Asked) (K : ℕ) (u w : Memory) : Type 0 where
@@ -174,41 +176,41 @@ block_length : {A : Type 0} (w k : ℕ) (l : List A) → suc k * w ≤ length l 
 block_length w k l h = let m : suc k * w ≡ k * w + w = suc-mul k w in let d = length-drop (k * w) l in length-take-le w (drop (k * w) l) (omega arith)
 
 -- ---- the two halves of a node
-child_a : (q : Asked) (b u : Bool) (n : Node (shape q)) → halves q.geometry (not b) u (part_of (shape q) n.a) ≡ part_of (shape q) (child (shape q) b u n).a
-child_a q true true n = refl
-child_a q true false n = refl
-child_a q false true n = refl
-child_a q false false n = refl
+child_a : (q : Asked) (b : Side) (u : Bool) (n : Node (shape q)) → halves q.geometry (is_first b) u (part_of (shape q) n.a) ≡ part_of (shape q) (child (shape q) b u n).a
+child_a q Second true n = refl
+child_a q Second false n = refl
+child_a q First true n = refl
+child_a q First false n = refl
 
-child_b : (q : Asked) (b u : Bool) (n : Node (shape q)) → halves q.geometry b u (part_of (shape q) n.b) ≡ part_of (shape q) (child (shape q) b u n).b
-child_b q true true n = refl
-child_b q true false n = refl
-child_b q false true n = refl
-child_b q false false n = refl
+child_b : (q : Asked) (b : Side) (u : Bool) (n : Node (shape q)) → halves q.geometry (is_second b) u (part_of (shape q) n.b) ≡ part_of (shape q) (child (shape q) b u n).b
+child_b q Second true n = refl
+child_b q Second false n = refl
+child_b q First true n = refl
+child_b q First false n = refl
 
--- the memory after a split of node n in slot k along its second line (true) or its first
-abbrev pub split_in : (q : Asked) → Bool → ℕ → Memory → Node (shape q) → Memory
+-- the memory after a split of node n in slot k along a line
+abbrev pub split_in : (q : Asked) → Side → ℕ → Memory → Node (shape q) → Memory
 split_in q b k u n = split_memory q.geometry b k (state_of q (start q)) u (part_of (shape q) n.a) (part_of (shape q) n.b) (depths q n)
 
 -- what the lower (false) and the upper (true) half's slot receives
-abbrev pub new_net1 : (q : Asked) → Bool → Node (shape q) → Bool → List Float
-new_net1 q b n c = (halves q.geometry (not b) c (part_of (shape q) n.a)).net
+abbrev pub new_net1 : (q : Asked) → Side → Node (shape q) → Bool → List Float
+new_net1 q b n c = (halves q.geometry (is_first b) c (part_of (shape q) n.a)).net
 
-abbrev pub new_net2 : (q : Asked) → Bool → Node (shape q) → Bool → List Float
-new_net2 q b n c = (halves q.geometry b c (part_of (shape q) n.b)).net
+abbrev pub new_net2 : (q : Asked) → Side → Node (shape q) → Bool → List Float
+new_net2 q b n c = (halves q.geometry (is_second b) c (part_of (shape q) n.b)).net
 
-abbrev pub new_ranges : (q : Asked) → Bool → Node (shape q) → Bool → List Float
+abbrev pub new_ranges : (q : Asked) → Side → Node (shape q) → Bool → List Float
 new_ranges q b n c =
-    let p = halves q.geometry (not b) c (part_of (shape q) n.a) in
-    let r = halves q.geometry b c (part_of (shape q) n.b) in
+    let p = halves q.geometry (is_first b) c (part_of (shape q) n.a) in
+    let r = halves q.geometry (is_second b) c (part_of (shape q) n.b) in
     p.lo ∷ p.hi ∷ r.lo ∷ r.hi ∷ []
 
-abbrev pub new_depth : (q : Asked) → Bool → Node (shape q) → List ℕ
+abbrev pub new_depth : (q : Asked) → Side → Node (shape q) → List ℕ
 new_depth q b n = pair_of (deepened b (depths q n))
 
-child_depths : (q : Asked) (b u : Bool) (n : Node (shape q)) → pair_of (deepened b (depths q n)) ≡ depth_of q (child (shape q) b u n)
-child_depths q true u n = refl
-child_depths q false u n = refl
+child_depths : (q : Asked) (b : Side) (u : Bool) (n : Node (shape q)) → pair_of (deepened b (depths q n)) ≡ depth_of q (child (shape q) b u n)
+child_depths q Second u n = refl
+child_depths q First u n = refl
 
 module _ (q : Asked) (low : (w : ℕ) (l : List Float) → length l ≡ 4 * w → length (q.geometry.lower_net l) ≡ 4 * w)
     (upp : (w : ℕ) (l : List Float) → length l ≡ 4 * w → length (q.geometry.upper_net l) ≡ 4 * w) where
@@ -223,16 +225,16 @@ module _ (q : Asked) (low : (w : ℕ) (l : List Float) → length l ≡ 4 * w �
   pair-length : {A : Type 0} (w : ℕ) (a b : List A) → length a ≡ w → length b ≡ w → length (a ++ b) ≡ w + w
   pair-length w a b e f = length-append a b ∙ ap (λ (z : ℕ). z + length b) e ∙ ap (λ (z : ℕ). w + z) f
 
-  module _ (b : Bool) (k : ℕ) (u : Memory) (n : Node (shape q)) (fit : suc (suc k) ≤ pairs_of q + spare) (r : Room q (sizes u)) (z : Stored q u k n) where
-    la : (c : Bool) → length (halves q.geometry (not b) c (part_of (shape q) n.a)).net ≡ 4 * q.width1
+  module _ (b : Side) (k : ℕ) (u : Memory) (n : Node (shape q)) (fit : suc (suc k) ≤ pairs_of q + spare) (r : Room q (sizes u)) (z : Stored q u k n) where
+    la : (c : Bool) → length (halves q.geometry (is_first b) c (part_of (shape q) n.a)).net ≡ 4 * q.width1
     la c =
-        half_length q.width1 (not b) c (part_of (shape q) n.a)
+        half_length q.width1 (is_first b) c (part_of (shape q) n.a)
         (ap length (sym z.net1)
         ∙ block_length (4 * q.width1) k u.nets1 (fits_in (suc k) (pairs_of q + spare) (4 * q.width1) (length u.nets1) (omega arith) r.nets1))
 
-    lb : (c : Bool) → length (halves q.geometry b c (part_of (shape q) n.b)).net ≡ 4 * q.width2
+    lb : (c : Bool) → length (halves q.geometry (is_second b) c (part_of (shape q) n.b)).net ≡ 4 * q.width2
     lb c =
-        half_length q.width2 b c (part_of (shape q) n.b)
+        half_length q.width2 (is_second b) c (part_of (shape q) n.b)
         (ap length (sym z.net2)
         ∙ block_length (4 * q.width2) k u.nets2 (fits_in (suc k) (pairs_of q + spare) (4 * q.width2) (length u.nets2) (omega arith) r.nets2))
 
@@ -318,14 +320,6 @@ pub flats-length : (l : List Region) → length (flats l) ≡ length l * 10
 flats-length [] = refl
 flats-length (r ∷ l) = let h = flats-length l in let a = length-append (flat r) (flats l) in let m = suc-mul (length l) 10 in omega arith
 
-pub map_append : {A B : Type 0} (f : A → B) (a b : List A) → map f (a ++ b) ≡ map f a ++ map f b
-map_append f [] b = refl
-map_append {B = B} f (x ∷ a) b = ap {B = List B} (λ (l : List B). f x ∷ l) (map_append f a b)
-
-pub length_mapped : {A B : Type 0} (f : A → B) (l : List A) → length (map f l) ≡ length l
-length_mapped f [] = refl
-length_mapped f (x ∷ l) = ap suc (length_mapped f l)
-
 patch_take : {A : Type 0} (l : List A) (i : ℕ) (vs : List A) → i ≤ length l → take (i + length vs) (patch l i vs) ≡ take i l ++ vs
 patch_take l i vs h =
     ap (take (i + length vs)) (sym (append_assoc (take i l) vs (drop (i + length vs) l)))
@@ -346,7 +340,7 @@ give_raw : (q : Asked) (g : List (Node (shape q))) (n : Node (shape q)) (raw : L
 give_raw q g n raw h e =
     let f = region_of q.geometry q.gap in
     let c : length (g ++ (n ∷ [])) * 10 ≡ length g * 10 + 10 = ap (λ (z : ℕ). z * 10) (length-append g (n ∷ [])) ∙ add-mul (length g) 1 10 in
-    ap (λ (z : ℕ). take z (patch raw (length g * 10) (flat (f n)))) c ∙ raw_more q g (f n ∷ []) raw h e ∙ ap flats (sym (map_append f g (n ∷ [])))
+    ap (λ (z : ℕ). take z (patch raw (length g * 10) (flat (f n)))) c ∙ raw_more q g (f n ∷ []) raw h e ∙ ap flats (sym (map-append f g (n ∷ [])))
 
 -- ---- counts
 zero_none : (S : Shape) (l : List (Node S)) → is_zero (length l) ≡ none S l
@@ -382,11 +376,11 @@ search q l se gi vi sp un st ow = record { stack = l; settled = se; given = gi; 
 
 abbrev pub rule_with : (q : Asked) → Bool → Verdict → Search (shape q) → Ruled q
 rule_with q e v m =
-    cond (ended (shape q) m) (record { answer = stepped Ended; search = m })
-    (cond e (record { answer = stepped (Next (state_of q (advance (shape q) v m))); search = advance (shape q) v m }) (record { answer = stepped NoRoom; search = m }))
+    cond (ended (shape q) m) (record { answer = stepped (Err Ended); search = m })
+    (cond e (record { answer = stepped (Ok (state_of q (advance (shape q) v m))); search = advance (shape q) v m }) (record { answer = stepped (Err NoRoom); search = m }))
 
 abbrev accepted : (q : Asked) → Search (shape q) → Ruled q
-accepted q m = record { answer = stepped (Next (state_of q m)); search = m }
+accepted q m = record { answer = stepped (Ok (state_of q m)); search = m }
 
 module _ (q : Asked) (low : (w : ℕ) (l : List Float) → length l ≡ 4 * w → length (q.geometry.lower_net l) ≡ 4 * w)
     (upp : (w : ℕ) (l : List Float) → length l ≡ 4 * w → length (q.geometry.upper_net l) ≡ 4 * w) where
@@ -429,7 +423,7 @@ module _ (q : Asked) (low : (w : ℕ) (l : List Float) → length l ≡ 4 * w �
           terms = q.terms;
         } in
         moved
-        (ap (λ (x : State). stepped (Next x)) st)
+        (ap (λ (x : State). stepped (Ok x)) st)
         st
         (record {
           nodes =
@@ -452,18 +446,18 @@ module _ (q : Asked) (low : (w : ℕ) (l : List Float) → length l ≡ 4 * w �
         })
 
     -- where a line can still be halved, the depths sum to under 64
-    below_sum : (b : Bool) → Below (shape q) b n → depth1 (shape q) n ≤ limit → depth2 (shape q) n ≤ limit → depth1 (shape q) n + depth2 (shape q) n < spare
-    below_sum true h f g = omega arith
-    below_sum false h f g = omega arith
+    below_sum : (b : Side) → Below (shape q) b n → depth1 (shape q) n ≤ limit → depth2 (shape q) n ≤ limit → depth1 (shape q) n + depth2 (shape q) n < spare
+    below_sum Second h f g = omega arith
+    below_sum First h f g = omega arith
 
-    stop_sim : (b : Bool) → Numbers q (split_along (shape q) b zero n r (search q (n ∷ r) se gi vi sp un false ow))
+    stop_sim : (b : Side) → Numbers q (split_along (shape q) b zero n r (search q (n ∷ r) se gi vi sp un false ow))
         → StepSim q (step_outcome (state_of q (search q (n ∷ r) se gi vi sp un false ow))
         (split_at q.geometry b zero (length r) (state_of q (search q (n ∷ r) se gi vi sp un false ow)) w (part_of (shape q) n.a)
         (part_of (shape q) n.b) (depths q n)))
         (accepted q (split_along (shape q) b zero n r (search q (n ∷ r) se gi vi sp un false ow))) (search q (n ∷ r) se gi vi sp un false ow) w
     stop_sim b K = moved refl refl (record { nodes = H.nodes; raw = H.raw }) refl R K
 
-    halve_sim : (b : Bool) (s : ℕ) → Below (shape q) b n → Numbers q (split_along (shape q) b (suc s) n r (search q (n ∷ r) se gi vi sp un false ow))
+    halve_sim : (b : Side) (s : ℕ) → Below (shape q) b n → Numbers q (split_along (shape q) b (suc s) n r (search q (n ∷ r) se gi vi sp un false ow))
         → StepSim q (step_outcome (state_of q (search q (n ∷ r) se gi vi sp un false ow))
         (split_at q.geometry b (suc s) (length r) (state_of q (search q (n ∷ r) se gi vi sp un false ow)) w (part_of (shape q) n.a)
         (part_of (shape q) n.b) (depths q n)))
@@ -488,12 +482,12 @@ module _ (q : Asked) (low : (w : ℕ) (l : List Float) → length l ≡ 4 * w �
         (split_sizes q low upp b (length r) w n fit R z) R K
 
     -- the numbers after a Split
-    split_numbers : (b : Bool) (k : ℕ) → un ≡ k → Balance (shape q) (pairs_of q) (split_along (shape q) b k n r (search q (n ∷ r) se gi vi sp un false ow))
+    split_numbers : (b : Side) (k : ℕ) → un ≡ k → Balance (shape q) (pairs_of q) (split_along (shape q) b k n r (search q (n ∷ r) se gi vi sp un false ow))
         → Numbers q (split_along (shape q) b k n r (search q (n ∷ r) se gi vi sp un false ow))
     split_numbers b zero e c = record { counts = c; allowance = let a = N.allowance in omega arith; visited = let v = N.visited in omega arith }
     split_numbers b (suc k) e c = record { counts = c; allowance = let a = N.allowance in omega arith; visited = let v = N.visited in omega arith }
 
-    split_sim : (b : Bool) (k : ℕ) → un ≡ k → Below (shape q) b n
+    split_sim : (b : Side) (k : ℕ) → un ≡ k → Below (shape q) b n
         → Balance (shape q) (pairs_of q) (split_along (shape q) b k n r (search q (n ∷ r) se gi vi sp un false ow))
         → StepSim q (step_outcome (state_of q (search q (n ∷ r) se gi vi sp un false ow))
         (split_at q.geometry b k (length r) (state_of q (search q (n ∷ r) se gi vi sp un false ow)) w (part_of (shape q) n.a)
@@ -502,15 +496,14 @@ module _ (q : Asked) (low : (w : ℕ) (l : List Float) → length l ≡ 4 * w �
     split_sim b zero e f c = stop_sim b (split_numbers b zero e c)
     split_sim b (suc k) e f c = halve_sim b k f (split_numbers b (suc k) e c)
 
-    divide_sim : (c : Choice) (k : ℕ) → un ≡ k → Chosen (shape q) c n
+    divide_sim : (c : Option Side) (k : ℕ) → un ≡ k → Chosen (shape q) c n
         → Balance (shape q) (pairs_of q) (divide (shape q) c k n r (search q (n ∷ r) se gi vi sp un false ow))
         → StepSim q (step_outcome (state_of q (search q (n ∷ r) se gi vi sp un false ow))
         (divide_at q.geometry c k (length r) (state_of q (search q (n ∷ r) se gi vi sp un false ow)) w (part_of (shape q) n.a)
         (part_of (shape q) n.b) (depths q n)))
         (accepted q (divide (shape q) c k n r (search q (n ∷ r) se gi vi sp un false ow))) (search q (n ∷ r) se gi vi sp un false ow) w
-    divide_sim First k e f c = split_sim false k e f c
-    divide_sim Second k e f c = split_sim true k e f c
-    divide_sim Neither k e f c = give_sim
+    divide_sim (Some line) k e f c = split_sim line k e f c
+    divide_sim None k e f c = give_sim
 
     -- the top node's parts and depth, as read
     at_parts : (F : Piece → Piece → Depths → Stepping) (R' : Ruled q)
@@ -603,9 +596,9 @@ module _ (q : Asked) (low : (w : ℕ) (l : List Float) → length l ≡ 4 * w �
 
       go : (e s : Bool) → (T e → Room q (sizes w)) → (Room q (sizes w) → T s)
           → StepSim q (step_outcome (state_of q (search q (n ∷ r) se gi vi sp un false ow))
-          (cond (e && s) (act_on q.geometry (suc (length r)) v (state_of q (search q (n ∷ r) se gi vi sp un false ow)) w) (stepping NoRoom w)))
+          (cond (e && s) (act_on q.geometry (suc (length r)) v (state_of q (search q (n ∷ r) se gi vi sp un false ow)) w) (stepping (Err NoRoom) w)))
           (cond e (accepted q (advance (shape q) v (search q (n ∷ r) se gi vi sp un false ow)))
-          (record { answer = stepped NoRoom; search = search q (n ∷ r) se gi vi sp un false ow })) (search q (n ∷ r) se gi vi sp un false ow) w
+          (record { answer = stepped (Err NoRoom); search = search q (n ∷ r) se gi vi sp un false ow })) (search q (n ∷ r) se gi vi sp un false ow) w
       go false s f g = unchanged refl refl refl refl
       go true false f g = absurd (g (f tt))
       go true true f g = act_sim q low upp n r se gi vi sp un ow w N (f tt) (H (f tt)) v

@@ -1,5 +1,5 @@
 -- What is claimed of every list of calls. Definitions only.
-use Rattle.std.specs.Prelude.{◌≡◌, ◌⊎◌, ◌↔◌, cond, List, [], ◌∷◌, map, ℕ, ◌+◌, ◌*◌, ◌^◌, ◌≤◌, T, length, take, Float}
+use Rattle.std.specs.Prelude.{Result, Ok, Err, ◌≡◌, ◌⊎◌, ◌↔◌, cond, List, [], ◌∷◌, map, ℕ, ◌+◌, ◌*◌, ◌^◌, ◌≤◌, T, length, take, Float}
 use Rattle.lists.specs.Members.{Any, All, Pairwise}
 use Rattle.lists.specs.Parts.{block}
 use Rattle.verdicts.specs.declared.Test.{Test}
@@ -18,14 +18,15 @@ use Rattle.floats.specs.Stations.{InRange, Piece, Cut}
 use Rattle.regions.specs.Stations.{InRegion}
 use Rattle.nodes.specs.Geometry.{region_of}
 use Rattle.states.specs.States.{Memory, allowance_of}
-use Rattle.report.specs.declared.Reported.{Reported}
-use Rattle.report.specs.declared.Reported.TheVariants.{Told, Running, NoRoom}
 use Rattle.report.specs.Reports.{Output}
-use Rattle.terms.specs.Terms.{seam_of1, seam_of2}
+use Rattle.terms.specs.Terms.{seam_of}
 use Rattle.machine.specs.Marks.{Marked}
 use Rattle.stretches.specs.Stretches.{near_at}
 use Rattle.coverage.specs.Calls.{Answer, stepped, judged, reported, Ran}
 use Rattle.opening.specs.Asked.{Asked, shape, pieces1, pieces2, In1, In2, state_of, result_of, raw_list, net_of1, net_of2, ranges_of, depth_of}
+use Rattle.report.specs.declared.Summary.{Summary}
+use Rattle.report.specs.declared.ReportError.{ReportError}
+use Rattle.verdicts.specs.declared.Side.TheVariants.{First, Second}
 
 -- ---- what admission and an unrefused opening give
 -- ends of pieces are finite and at most 2 ^ bound in size; nets have the line's width
@@ -79,15 +80,14 @@ pub record GoodReport (q : Asked) (m : Search (shape q)) (w : Word) (c : Counts)
   pub accounted : (s t : Float) → In1 q s → In2 q t → Accounted q m out s t
   pub disjoint : Pairwise (Off merging) out
   -- equal marks exactly where a chain of neighbours joins two regions, each the lowest list index of its group
-  pub marked : Marked k (near_at (seam_of1 q.terms) (seam_of2 q.terms) out) (take k o.marks)
+  pub marked : Marked k (near_at (seam_of First q.terms) (seam_of Second q.terms) out) (take k o.marks)
   -- "The three sum to settled"
   pub tags : c.settled ≡ c.boxes + c.planes + c.lines
   pub exact : (w ≡ Complete) ↔ ((c.given ≡ 0) × (c.left ≡ 0))
 
-abbrev pub GoodReported : (q : Asked) → Search (shape q) → Reported → Output → Type 0
-GoodReported q m (Told w c k) o = GoodReport q m w c k o
-GoodReported q m Running o = Unit {0}
-GoodReported q m NoRoom o = Unit {0}
+abbrev pub GoodReported : (q : Asked) → Search (shape q) → Result Summary ReportError → Output → Type 0
+GoodReported q m (Ok s) o = GoodReport q m s.word s.counts s.regions o
+GoodReported q m (Err e) o = Unit {0}
 
 abbrev pub GoodAnswer : (q : Asked) → Search (shape q) → Answer → Type 0
 GoodAnswer q m (stepped a) = Unit {0}

@@ -2,13 +2,14 @@
 use mathlib.Core.Path.{◌≡◌, refl}
 use mathlib.Core.Bool.{Bool, true, false, cond}
 use mathlib.Core.List.{List, [], ◌∷◌, ◌++◌}
-use Prim.Native.Nat.{suc, ◌+◌, ◌-◌, ◌≤◌}
+use Prim.Native.Nat.{suc, ◌+◌, ◌≤◌}
 use native.Mathlib.Omega.{arith}
 use lib.Dec.{T}
 use lib.ListN.{length, length-append}
 use lib.Ieee.{Float, le, lt}
 use Rattle.floats.proofs.Bounds.{lt_not_le}
 use Rattle.knots.specs.Knots.{shifted, period_of, unrolled_of, inside, between}
+use Rattle.knots.proofs.Laws.{length-shifted}
 use Rattle.curves.specs.Curves.{count_in}
 
 between_most : (lo hi : Float) (ks l : List Float) → length (between lo hi ks l) ≤ length ks + length l
@@ -28,11 +29,6 @@ first_out lo hi k h = go (lt lo k) (λ t. lt_not_le lo k t h)
     go : (b : Bool) → (T b → ⊥) → cond b (lt k hi) false ≡ false
     go true f = absurd (f tt)
     go false f = refl
-
-length-shifted : (d : Float) (ks : List Float) → length (shifted d ks) ≡ length ks
-unfolding shifted
-length-shifted d [] = refl
-length-shifted d (k ∷ ks) = λ i. suc (length-shifted d ks i)
 
 pub few_open : (lo hi : Float) (knots : List Float) → length knots ≤ 128 → count_in lo hi (unrolled_of false knots) ≤ 255
 unfolding unrolled_of

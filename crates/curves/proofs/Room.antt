@@ -1,34 +1,21 @@
 -- What admission says of the lengths of a line's lists, as `with_poles` asks it. Assumes nothing.
-use mathlib.Core.Path.{◌≡◌, sym}
-use mathlib.Core.Bool.{Bool, true, false, cond, true≢false}
-use mathlib.Core.List.{List, [], ◌∷◌}
-use Prim.Native.Nat.{ℕ, zero, suc, ◌+◌, ◌-◌, ◌≤◌, ◌<◌}
+use mathlib.Core.Path.{◌≡◌}
+use mathlib.Core.Bool.{Bool, true, false}
+use mathlib.Core.List.{List}
+use Prim.Native.Nat.{ℕ, ◌+◌, ◌-◌, ◌≤◌}
 use native.Mathlib.Omega.{arith}
-use lib.Dec.{T, ltb, ltb→lt}
-use lib.ListN.{length, get_or}
+use borrow.Author.Tests.{ltb-true}
+use lib.Dec.{ltb}
+use lib.ListN.{length}
 use Rattle.lists.specs.Tests.{every, total}
 use Rattle.lines.specs.Lines.{Line}
 use Rattle.lines.specs.Admit.{beyond_of}
 use Rattle.lines.specs.Counts.{Counts}
-use Rattle.lines.proofs.Admitted.{few_beyond}
-
-at_least : (ms : List ℕ) (i : ℕ) → i < length ms → every (λ m. ltb 0 m) ms ≡ true → 1 ≤ get_or ms i 0
-unfolding every
-at_least [] i h e = absurd (omega arith)
-at_least (m ∷ ms) zero h e = ltb→lt 0 m (test (ltb 0 m) (every (λ k. ltb 0 k) ms) e)
-  where
-    test : (a b : Bool) → cond a b false ≡ true → T a
-    test true b e = tt
-    test false b e = absurd (true≢false (sym e))
-at_least (m ∷ ms) (suc i) h e = at_least ms i (omega arith) (test (ltb 0 m) (every (λ k. ltb 0 k) ms) e)
-  where
-    test : (a b : Bool) → cond a b false ≡ true → b ≡ true
-    test true b e = e
-    test false b e = absurd (true≢false (sym e))
+use Rattle.lines.proofs.Admitted.{every_at, few_beyond}
 
 some_beyond : (closed : Bool) (degree : ℕ) (mults : List ℕ) → 1 ≤ length mults → every (λ m. ltb 0 m) mults ≡ true → 1 ≤ beyond_of closed degree mults
 unfolding beyond_of
-some_beyond true degree mults h e = at_least mults (length mults - 1) (omega arith) e
+some_beyond true degree mults h e = ltb-true _ _ (every_at 0 (λ m. ltb 0 m) mults (length mults - 1) (omega arith) e)
 some_beyond false degree mults h e = omega arith
 
 -- the sum of the multiplicities is above the poles by 1 to degree + 1, and the poles are degree + 1 to 128

@@ -1,10 +1,14 @@
 -- A Bezier net of points of four numbers, cut to a part of its range (`restrict`) by the de Casteljau algorithm (The NURBS Book, Algorithm A1.5, deCasteljau1), in the Rust's order of operations. Definitions only.
-use Rattle.std.specs.Prelude.{ℕ, cond, List, Float, get_or}
-use Rattle.std.specs.Float.{binary64, nan}
+use Rattle.std.specs.Prelude.{ℕ, ◌≡◌, ◌*◌, ◌≤◌, cond, List, length, Float}
+use Rattle.std.specs.Float.{binary64}
 use Rattle.std.specs.Float.Ieee.{add, sub, mul, div, lt}
-use Rattle.points.specs.declared.Point4D.{Point4D}
 use Rattle.floats.specs.Floats.{zero64, one64}
 use Rattle.lists.specs.Rounds.{paired, remains, firsts}
+
+-- a net of n points, 26 at most
+pub record IsNet (n : ℕ) (l : List Float) : Type 0 where
+  pub few : n ≤ 26
+  pub four_each : length l ≡ n * 4
 
 -- `lerp` of `restrict`: a + f × (b − a)
 unfoldable pub lerp_of : Float → Float → Float → Float
@@ -21,10 +25,6 @@ from_of f k l = remains (lerp_of f) k l
 -- k points: the part up to f keeps each round's first point
 abbrev pub up_to_of : Float → ℕ → List Float → List Float
 up_to_of f k l = firsts (lerp_of f) k l
-
--- a net's first point
-abbrev pub first_of : List Float → Point4D
-first_of l = record { x = get_or l 0 nan; y = get_or l 1 nan; z = get_or l 2 nan; w = get_or l 3 nan }
 
 -- `g` of `restrict`: where f1 lies in the part from f0 on; a NaN for f0 = f1 = 1
 unfoldable pub rest_of : Float → Float → Float

@@ -1,9 +1,10 @@
 // A Bezier net cut to a part of its range, in blocks of four numbers.
 #![tactic(auto)]
 
-ghost use Rattle.std.specs.Prelude.{◌≡◌, ◌+◌, ◌*◌, ◌≤◌, ◌<◌, length};
-ghost use Rattle.cuts.specs.Cuts.{lerp_of, first_of, lerps, from_of, up_to_of, rest_of, upper_part, lower_part, restricted};
+ghost use Rattle.std.specs.Prelude.{◌≡◌, ◌+◌, ◌*◌, ◌≤◌, length};
+ghost use Rattle.cuts.specs.Cuts.{IsNet, lerp_of, lerps, from_of, up_to_of, rest_of, upper_part, lower_part, restricted};
 
+#[tactic(auto, unfolding(crate::specs::Cuts::lerp_of))]
 fn lerp(f: f64, a: f64, b: f64) -> f64
     ensures { result ≡ lerp_of f a b }
 {
@@ -15,73 +16,45 @@ fn lerp_round(s: &mut [f64], m: usize, f: f64)
     requires { m + 4 ≤ length s.old }
     ensures { s.new ≡ lerps f m s.old }
 {
-    let mut x = 0;
-    while x < m {
-        s[x] = lerp(f, s[x], s[x + 4]);
-        x += 1;
-    }
+    lists::pair_round(s, 4, m, |a, b| lerp(f, a, b));
 }
 
 // The part from `f` on, in place.
 fn cut_from(s: &mut [f64], n: usize, f: f64)
-    requires { (n ≤ 26) × (length s.old ≡ n * 4) }
+    requires { IsNet n s.old }
     ensures { s.new ≡ from_of f n s.old }
 {
-    let mut r = 0;
-    while r < n {
+    for r in 0..n {
         lerp_round(s, (n - 1 - r) * 4, f);
-        r += 1;
     }
 }
 
-// The net's first point.
-fn first(s: &[f64]) -> points::Point4D
-    requires { 4 ≤ length s.now }
-    ensures { result ≡ first_of s.now }
-{
-    points::Point4D {
-        x: s[0],
-        y: s[1],
-        z: s[2],
-        w: s[3],
-    }
-}
-
-// The part up to `f` into `low`; `s` is used up.
+// The part up to `f` into `low`, a point a round; `s` is used up.
 fn cut_to(s: &mut [f64], n: usize, f: f64, low: &mut [f64])
-    requires { (n ≤ 26) × (length s.old ≡ n * 4) × (length low.old ≡ n * 4) }
+    requires { IsNet n s.old × (length low.old ≡ n * 4) }
     ensures { low.new ≡ up_to_of f n s.old }
 {
-    let mut r = 0;
-    while r < n {
-        points::put(low, r * 4, first(s));
+    for r in 0..n {
+        low[r * 4..r * 4 + 4].copy_from_slice(&s[..4]);
         lerp_round(s, (n - 1 - r) * 4, f);
-        r += 1;
     }
-}
-
-// Room for 26 points.
-fn scratch() -> [f64; 104]
-    ensures { length result ≡ 104 }
-{
-    [0.0f64; 104]
 }
 
 // The part up to `f`, in place.
 fn cut_up_to(s: &mut [f64], n: usize, f: f64)
-    requires { (n ≤ 26) × (length s.old ≡ n * 4) }
+    requires { IsNet n s.old }
     ensures { s.new ≡ up_to_of f n s.old }
 {
-    let len = n * 4;
-    let mut low = scratch();
-    let t = &mut low[..len];
+    let mut low = [0.0; 104];
+    let t = &mut low[..n * 4];
     cut_to(s, n, f, t);
     s.copy_from_slice(t);
 }
 
 // The cut at `f0`.
+#[tactic(auto, unfolding(crate::specs::Cuts::upper_part))]
 fn upper_part(s: &mut [f64], n: usize, f: f64)
-    requires { (n ≤ 26) × (length s.old ≡ n * 4) }
+    requires { IsNet n s.old }
     ensures { s.new ≡ upper_part f n s.old }
 {
     if f > 0.0 {
@@ -90,8 +63,9 @@ fn upper_part(s: &mut [f64], n: usize, f: f64)
 }
 
 // The cut at `g`.
+#[tactic(auto, unfolding(crate::specs::Cuts::lower_part))]
 fn lower_part(s: &mut [f64], n: usize, g: f64)
-    requires { (n ≤ 26) × (length s.old ≡ n * 4) }
+    requires { IsNet n s.old }
     ensures { s.new ≡ lower_part g n s.old }
 {
     if g < 1.0 {
@@ -100,18 +74,17 @@ fn lower_part(s: &mut [f64], n: usize, g: f64)
 }
 
 // Where `f1` lies in the part from `f0` on.
+#[tactic(auto, unfolding(crate::specs::Cuts::rest_of))]
 fn rest(f0: f64, f1: f64) -> f64
     ensures { result ≡ rest_of f0 f1 }
 {
-    if f0 > 0.0 {
-        return (f1 - f0) / (1.0 - f0);
-    }
-    f1
+    if f0 > 0.0 { (f1 - f0) / (1.0 - f0) } else { f1 }
 }
 
 // The net of `n` points cut to the part from `f0` to `f1`, in place.
+#[tactic(auto, unfolding(crate::specs::Cuts::restricted))]
 pub fn restrict(s: &mut [f64], n: usize, f0: f64, f1: f64)
-    requires { (n ≤ 26) × (length s.old ≡ n * 4) }
+    requires { IsNet n s.old }
     ensures { s.new ≡ restricted f0 f1 n s.old }
 {
     upper_part(s, n, f0);

@@ -11,20 +11,21 @@ use lib.Ieee.{lt, neg}
 use Rattle.lists.specs.Tests.{every, total}
 use Rattle.floats.specs.Floats.{within}
 use Rattle.floats.specs.Sizes.{Within}
-use Rattle.lines.specs.declared.Admission.{Admission}
-use Rattle.lines.specs.declared.Admission.TheVariants.{Admitted, InvalidDegree, KnotCount, KnotOutOfRange, KnotsNotIncreasing, EndMultiplicitiesDiffer, MultiplicityTooLarge, ZeroMultiplicity, PoleCountMismatch, PoleCountOutOfRange, WeightCountMismatch, WeightOutOfRange, CoordinateOutOfRange}
-use Rattle.lines.specs.Admit.{admission_number, two20, two24, two10, one1024th, inner, degree_out, knot_count_out, knot_out, not_increasing, ends_differ, ends_too_large, too_large, zero_mult, beyond_of, pole_mismatch, pole_count_out, weight_mismatch, weight_out, coord_out, validate_knots, validate_mults, validate_poles, admit_of}
+use Rattle.std.specs.Prelude.{Result, Ok, Err}
+use Rattle.lines.specs.declared.LineError.{LineError}
+use Rattle.lines.specs.declared.LineError.TheVariants.{InvalidDegree, KnotCount, KnotOutOfRange, KnotsNotIncreasing, EndMultiplicitiesDiffer, MultiplicityTooLarge, ZeroMultiplicity, PoleCountMismatch, PoleCountOutOfRange, WeightCountMismatch, WeightOutOfRange, CoordinateOutOfRange}
+use Rattle.lines.specs.Admit.{two20, two24, two10, one1024th, inner, degree_out, knot_count_out, knot_out, not_increasing, ends_differ, ends_too_large, too_large, zero_mult, beyond_of, pole_mismatch, pole_count_out, weight_mismatch, weight_out, coord_out, validate_knots, validate_mults, validate_poles, admit_of}
 use Rattle.lines.specs.Lines.{Line}
-use Rattle.facts.specs.Faults.{WithinFactor, ByClosed, poles, last_mult, Fault4, Fault5, Fault6, Fault7, Fault22, Fault8, Fault9, Fault10, Fault11, Fault12, Fault13, Fault14, LineFault, row_rank, FirstLineFault}
+use Rattle.facts.specs.Faults.{WithinFactor, ByClosed, poles, last_mult, Fault4, Fault5, Fault6, Fault7, Fault22, Fault8, Fault9, Fault10, Fault11, Fault12, Fault13, Fault14, admit_number, LineFault, row_rank, FirstLineFault}
 use Rattle.facts.proofs.Reflect.{Tests, never, of_T, of_lt, of_eq, of_or, of_or3, of_not, of_neither, of_over, of_any, of_two, of_kind, same}
 use Rattle.facts.proofs.Sizes.{of_within20, of_within24, of_weight}
 use Rattle.facts.proofs.Rows.{first_row, Met, InOrder, first_met_lem, met_first, none_met, met_none, Apart, row, of_row}
 
 -- ---- the answer is the place of the first test that is true
 twelve : (b4 b5 b6 b7 b22 b8 b9 b10 b11 b12 b13 b14 : Bool)
-    → admission_number
-    (cond b4 InvalidDegree (cond b5 KnotCount (cond b6 KnotOutOfRange (cond b7 KnotsNotIncreasing (cond b22 EndMultiplicitiesDiffer (cond b8 MultiplicityTooLarge (cond b9 ZeroMultiplicity
-    (cond b10 PoleCountMismatch (cond b11 PoleCountOutOfRange (cond b12 WeightCountMismatch (cond b13 WeightOutOfRange (cond b14 CoordinateOutOfRange Admitted))))))))))))
+    → admit_number
+    (cond b4 (Err InvalidDegree) (cond b5 (Err KnotCount) (cond b6 (Err KnotOutOfRange) (cond b7 (Err KnotsNotIncreasing) (cond b22 (Err EndMultiplicitiesDiffer) (cond b8 (Err MultiplicityTooLarge) (cond b9 (Err ZeroMultiplicity)
+    (cond b10 (Err PoleCountMismatch) (cond b11 (Err PoleCountOutOfRange) (cond b12 (Err WeightCountMismatch) (cond b13 (Err WeightOutOfRange) (cond b14 (Err CoordinateOutOfRange) (Ok tt)))))))))))))
     ≡ first_row 0 ((4, b4) ∷ (5, b5) ∷ (6, b6) ∷ (7, b7) ∷ (22, b22) ∷ (8, b8) ∷ (9, b9) ∷ (10, b10) ∷ (11, b11) ∷ (12, b12) ∷ (13, b13) ∷ (14, b14) ∷ [])
 twelve true b5 b6 b7 b22 b8 b9 b10 b11 b12 b13 b14 = refl
 twelve false true b6 b7 b22 b8 b9 b10 b11 b12 b13 b14 = refl
@@ -47,7 +48,7 @@ rows l =
     (12, weight_mismatch l.coords l.weights)
     ∷ (13, weight_out l.weights) ∷ (14, coord_out l.coords) ∷ []
 
-number : (l : Line) → admission_number (admit_of l) ≡ first_row 0 (rows l)
+number : (l : Line) → admit_number (admit_of l) ≡ first_row 0 (rows l)
 unfolding rows validate_knots validate_mults validate_poles
 number l =
     twelve (degree_out l.degree) (knot_count_out l.knots l.mults) (knot_out l.knots) (not_increasing l.knots)
@@ -55,21 +56,21 @@ number l =
     (pole_mismatch l.closed l.degree l.mults l.coords) (pole_count_out l.degree l.coords) (weight_mismatch l.coords l.weights)
     (weight_out l.weights) (coord_out l.coords)
 
--- only Admitted has number 0
-zero_admitted : (a : Admission) → admission_number a ≡ 0 → a ≡ Admitted
-zero_admitted Admitted e = refl
-zero_admitted InvalidDegree e = absurd (omega arith)
-zero_admitted KnotCount e = absurd (omega arith)
-zero_admitted KnotOutOfRange e = absurd (omega arith)
-zero_admitted KnotsNotIncreasing e = absurd (omega arith)
-zero_admitted EndMultiplicitiesDiffer e = absurd (omega arith)
-zero_admitted MultiplicityTooLarge e = absurd (omega arith)
-zero_admitted ZeroMultiplicity e = absurd (omega arith)
-zero_admitted PoleCountMismatch e = absurd (omega arith)
-zero_admitted PoleCountOutOfRange e = absurd (omega arith)
-zero_admitted WeightCountMismatch e = absurd (omega arith)
-zero_admitted WeightOutOfRange e = absurd (omega arith)
-zero_admitted CoordinateOutOfRange e = absurd (omega arith)
+-- only an admitted line has number 0
+zero_admitted : (a : Result Unit LineError) → admit_number a ≡ 0 → a ≡ Ok tt
+zero_admitted (Ok tt) e = refl
+zero_admitted (Err InvalidDegree) e = absurd (omega arith)
+zero_admitted (Err KnotCount) e = absurd (omega arith)
+zero_admitted (Err KnotOutOfRange) e = absurd (omega arith)
+zero_admitted (Err KnotsNotIncreasing) e = absurd (omega arith)
+zero_admitted (Err EndMultiplicitiesDiffer) e = absurd (omega arith)
+zero_admitted (Err MultiplicityTooLarge) e = absurd (omega arith)
+zero_admitted (Err ZeroMultiplicity) e = absurd (omega arith)
+zero_admitted (Err PoleCountMismatch) e = absurd (omega arith)
+zero_admitted (Err PoleCountOutOfRange) e = absurd (omega arith)
+zero_admitted (Err WeightCountMismatch) e = absurd (omega arith)
+zero_admitted (Err WeightOutOfRange) e = absurd (omega arith)
+zero_admitted (Err CoordinateOutOfRange) e = absurd (omega arith)
 
 -- ---- each test decides its row's sentence
 module _ (l : Line) where
@@ -164,18 +165,18 @@ module _ (l : Line) where
   transitive a b c h g = omega arith
 
   -- ---- the theorem, for a refusal
-  pub refused : (n : ℕ) → 0 < n → admission_number (admit_of l) ≡ n → FirstLineFault n l
+  pub refused : (n : ℕ) → 0 < n → admit_number (admit_of l) ≡ n → FirstLineFault n l
   refused n h e =
       let m = first_met_lem Before irreflexive transitive 0 (rows l) n in_order (λ z. omega arith) (sym (number l) ∙ e) in
       (of_met n m.0, λ k lt f. m.1 k lt (met k f))
 
-  pub refuses : (n : ℕ) → FirstLineFault n l → admission_number (admit_of l) ≡ n
+  pub refuses : (n : ℕ) → FirstLineFault n l → admit_number (admit_of l) ≡ n
   refuses n f = number l ∙ met_first Before irreflexive transitive 0 (rows l) n in_order (met n f.0) (λ k lt m. f.1 k lt (of_met k m))
 
   -- ---- and for an admitted line
-  pub admitted : admit_of l ≡ Admitted → (n : ℕ) → LineFault n l → ⊥
+  pub admitted : admit_of l ≡ Ok tt → (n : ℕ) → LineFault n l → ⊥
   admitted e n f =
-      none_met Before irreflexive transitive 0 (rows l) apart (sym (number l) ∙ ap admission_number e) n (met n f)
+      none_met Before irreflexive transitive 0 (rows l) apart (sym (number l) ∙ ap admit_number e) n (met n f)
 
-  pub admits : ((n : ℕ) → LineFault n l → ⊥) → admit_of l ≡ Admitted
+  pub admits : ((n : ℕ) → LineFault n l → ⊥) → admit_of l ≡ Ok tt
   admits h = zero_admitted (admit_of l) (number l ∙ met_none Before irreflexive transitive 0 (rows l) (λ k m. h k (of_met k m)))

@@ -15,7 +15,8 @@ use Rattle.knots.specs.Knots.{repeated, flat_knots}
 use Rattle.floats.specs.Sizes.{Number}
 use Rattle.floats.proofs.Order.{le_self, le_trans_float, right_number}
 use Rattle.facts.proofs.Reflect.{both, as_true}
-use Rattle.facts.proofs.Cover.{fits_of, lt_le, every_at, every_flat}
+use Rattle.lines.proofs.Admitted.{every_at}
+use Rattle.facts.proofs.Cover.{fits_of, lt_le, every_flat}
 
 abbrev pub Above : Float → List Float → Type 0
 Above k l = All (λ (y : Float). T (le k y)) l
@@ -83,4 +84,4 @@ pub climbs : (ks : List Float) (ms : List ℕ) → each_two lt ks ≡ true → e
     → (i j : ℕ) → i ≤ j → j < length (flat_knots ks ms) → T (le (get_or (flat_knots ks ms) i nan) (get_or (flat_knots ks ms) j nan))
 climbs ks ms r f i j a b =
     sorted_at (flat_knots ks ms) i j (sorted_flat ks ms r f)
-    (λ k h. numbers_of _ (every_at (within (neg two20) two20) (flat_knots ks ms) k h (every_flat (within (neg two20) two20) ks ms f))) a b
+    (λ k h. numbers_of _ (every_at nan (within (neg two20) two20) (flat_knots ks ms) k h (every_flat (within (neg two20) two20) ks ms f))) a b

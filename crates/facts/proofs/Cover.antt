@@ -16,9 +16,9 @@ use Rattle.floats.specs.Sizes.{Within}
 use Rattle.floats.proofs.Middle.{within_number, add_within}
 use Rattle.floats.proofs.Reach.{reach_within}
 use Rattle.floats.proofs.Order.{le_total, right_number, le_trans_float}
-use Rattle.lines.specs.declared.Admission.TheVariants.{Admitted}
+use Rattle.std.specs.Prelude.{Ok}
 use Rattle.lines.specs.Admit.{two20, admit_of}
-use Rattle.lines.proofs.Admitted.{counts}
+use Rattle.lines.proofs.Admitted.{counts, every_at}
 use Rattle.knots.specs.Knots.{repeated, flat_knots, open_bounds, bounds_in, period_of, shifted, unrolled_of, inside, between, bounds_of, knots_of, breaks_of}
 use Rattle.pieces.specs.Pieces.{net_of, nets_of}
 use Rattle.pieces.proofs.Lengths.{length_net, length_nets}
@@ -80,12 +80,6 @@ every_flat t (k ∷ ks) [] e = refl
 every_flat t (k ∷ ks) (m ∷ ms) e =
     let h = both (t k) (every t ks) e in
     every_repeated t m k (flat_knots ks ms) (as_true (t k) h.0) (every_flat t ks ms h.1)
-
-pub every_at : (t : Float → Bool) (l : List Float) (i : ℕ) → i < length l → every t l ≡ true → t (get_or l i nan) ≡ true
-unfolding every
-every_at t [] i h e = absurd (omega arith)
-every_at t (x ∷ l) zero h e = as_true (t x) (both (t x) (every t l) e).0
-every_at t (x ∷ l) (suc i) h e = every_at t l i (omega arith) (both (t x) (every t l) e).1
 
 length-repeated : (m : ℕ) (k : Float) (l : List Float) → length (repeated m k l) ≡ m + length l
 unfolding repeated
@@ -171,7 +165,7 @@ pub period_within : (knots : List Float) → 2 ≤ length knots → every (withi
 period_within knots two six = sub_within _ _ (knot_within (length knots - 1) (omega arith)) (knot_within 0 (omega arith))
   where
     knot_within : (i : ℕ) → i < length knots → Within (2 ^ 20) (get_or knots i nan)
-    knot_within i h = (of_within20 (get_or knots i nan)).yes (every_at (within (neg two20) two20) knots i h six)
+    knot_within i h = (of_within20 (get_or knots i nan)).yes (every_at nan (within (neg two20) two20) knots i h six)
 
 -- the knots of a line, unrolled if it is closed
 pub unrolled_within : (closed : Bool) (knots : List Float) → 2 ≤ length knots → every (within (neg two20) two20) knots ≡ true → All (Within (2 ^ 22)) (unrolled_of closed knots)
@@ -186,11 +180,11 @@ unrolled_within true knots two six =
 module _ (degree : ℕ) (knots : List Float) (mults : List ℕ) (lo hi : Float) (two : 2 ≤ length knots) (lm : length mults ≡ length knots) (room : degree + 1 ≤ total mults)
     (six : every (within (neg two20) two20) knots ≡ true) where
   knot_fits : (i : ℕ) → i < length knots → Fits (get_or knots i nan)
-  knot_fits i h = fits_of _ (every_at (within (neg two20) two20) knots i h six)
+  knot_fits i h = fits_of _ (every_at nan (within (neg two20) two20) knots i h six)
 
   flat_fits : (i : ℕ) → i < total mults → Fits (get_or (flat_knots knots mults) i nan)
   flat_fits i h =
-      fits_of _ (every_at (within (neg two20) two20) (flat_knots knots mults) i (let l = length-flat knots mults lm in omega arith)
+      fits_of _ (every_at nan (within (neg two20) two20) (flat_knots knots mults) i (let l = length-flat knots mults lm in omega arith)
       (every_flat (within (neg two20) two20) knots mults six))
 
   between_bounds : (a b : Float) → Fits a → Fits b → T (le a lo) → T (le lo b) → Within (2 ^ 20) lo
@@ -236,7 +230,7 @@ cuts_fine closed p knots flat poles t [] a = tt
 cuts_fine closed p knots flat poles t (t1 ∷ ts) a = ((a.0, length_net closed p knots flat poles t t1), cuts_fine closed p knots flat poles t1 ts a.1)
 
 -- ---- of an admitted line and a range that fits
-module _ (l : Line) (lo hi : Float) (ok : admit_of l ≡ Admitted) (fits : range_fits l.closed (bounds_of l) lo hi ≡ true) where
+module _ (l : Line) (lo hi : Float) (ok : admit_of l ≡ Ok tt) (fits : range_fits l.closed (bounds_of l) lo hi ≡ true) where
   knots_within : All (Within (2 ^ 22)) (knots_of l)
   knots_within = let k = counts l ok in unrolled_within l.closed l.knots k.two_knots k.knots_fit
 

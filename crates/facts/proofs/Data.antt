@@ -4,7 +4,7 @@ use mathlib.Core.Logic.{◌⊎◌}
 use mathlib.Core.Bool.{Bool, true, false, not, ◌||◌}
 use Prim.Native.Nat.{ℕ, ◌<◌}
 use lib.Dec.{ltb, eqb}
-use borrow.Author.Tests.{ltb-false, le-ltb, eqb-true, eq-eqb, not-true, not-false}
+use borrow.Author.Tests.{ltb-false, eqb-true, eq-eqb, not-true, not-false}
 use Rattle.lines.specs.Data.{datum_out, one_datum}
 use Rattle.lines.proofs.Data.{within_span}
 use Rattle.curves.specs.Curves.{pieces_of}
@@ -31,15 +31,11 @@ one a b e =
     let h = neither (datum_out b) _ f.1 in
     (ltb-false a 1 g.0, ltb-false 9999 a g.1, eqb-true a b (not-false _ h.1))
 
-within : (a b : ℕ) → OneDatum a b → datum_out a ≡ false
-unfolding datum_out
-within a b o = let low = le-ltb a 1 o.0 in let high = le-ltb 9999 a o.1 in rw (low, high) refl
-
 pub data_table : DataTable
 unfolding one_datum
 data_table a b = (
   ((λ e. (row a b).yes (not-false _ e)), (λ f. ap not ((row a b).holds f))),
-  ((λ e. one a b (not-true _ e)), (λ o. within_span a b (within a b o) ∙ eq-eqb a b o.2)),
+  ((λ e. one a b (not-true _ e)), (λ o. within_span a b o.0 o.1 ∙ eq-eqb a b o.2)),
 )
 
 pub datum_unread : DatumUnread

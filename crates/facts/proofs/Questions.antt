@@ -11,14 +11,15 @@ use lib.Ieee.{Float, nan, lt, le, binary64, sub}
 use Rattle.lists.specs.Tests.{each_two}
 use Rattle.floats.specs.Floats.{zero64, within, middle}
 use Rattle.points.specs.declared.Interval.{Interval}
-use Rattle.lines.specs.declared.Admission.TheVariants.{Admitted}
+use Rattle.std.specs.Prelude.{Result, Ok, Err}
 use Rattle.lines.specs.Admit.{two24, admit_of}
 use Rattle.knots.specs.Knots.{bounds_in, bounds_of, breaks_of}
-use Rattle.questions.specs.declared.Asked.{Asked}
-use Rattle.questions.specs.declared.Asked.TheVariants.{Fine, RangeOutOfBounds, GapOutOfRange, TooManySplits, BreaksTooClose}
-use Rattle.questions.specs.Questions.{asked_number, asked_line, turn_fits, range_fits, parted, ask_within, ask_of}
+use Rattle.verdicts.specs.declared.Side.TheVariants.{First, Second}
+use Rattle.questions.specs.declared.QuestionError.{QuestionError}
+use Rattle.questions.specs.declared.QuestionError.TheVariants.{RangeOutOfBounds, GapOutOfRange, TooManySplits, BreaksTooClose}
+use Rattle.questions.specs.Questions.{turn_fits, range_fits, parted, ask_within, ask_of}
 use Rattle.lines.specs.Lines.{Line, Question}
-use Rattle.facts.specs.Faults.{ByClosed, Finite, OffTurn, Fault15, Fault16, Fault18, QuestionFault, Earlier, asked_place, FirstQuestionFault}
+use Rattle.facts.specs.Faults.{ByClosed, Finite, OffTurn, Fault15, Fault16, Fault18, QuestionFault, Earlier, asked_number, asked_line, asked_place, FirstQuestionFault}
 use Rattle.facts.proofs.Reflect.{Tests, of_T, of_lt, of_not, of_both, of_two, same}
 use Rattle.facts.proofs.Sizes.{of_gap_lem, within_finite}
 use Rattle.facts.proofs.Cover.{range_fine}
@@ -27,9 +28,9 @@ use Rattle.facts.proofs.Rows.{first_row, Met, InOrder, Apart, first_met_lem, met
 six : (a b c d e f : Bool)
     → ◌≡◌ {A = ℕ × ℕ} (
       asked_number
-          (cond a (RangeOutOfBounds 1) (cond b (RangeOutOfBounds 2) (cond c GapOutOfRange (cond d TooManySplits (cond e (BreaksTooClose 1) (cond f (BreaksTooClose 2) Fine)))))),
+          (cond a (Err (RangeOutOfBounds First)) (cond b (Err (RangeOutOfBounds Second)) (cond c (Err GapOutOfRange) (cond d (Err TooManySplits) (cond e (Err (BreaksTooClose First)) (cond f (Err (BreaksTooClose Second)) (Ok tt))))))),
       asked_line
-          (cond a (RangeOutOfBounds 1) (cond b (RangeOutOfBounds 2) (cond c GapOutOfRange (cond d TooManySplits (cond e (BreaksTooClose 1) (cond f (BreaksTooClose 2) Fine)))))),
+          (cond a (Err (RangeOutOfBounds First)) (cond b (Err (RangeOutOfBounds Second)) (cond c (Err GapOutOfRange) (cond d (Err TooManySplits) (cond e (Err (BreaksTooClose First)) (cond f (Err (BreaksTooClose Second)) (Ok tt))))))),
     )
     (first_row (0, 0) (((15, 1), a) ∷ ((15, 2), b) ∷ ((16, 0), c) ∷ ((17, 0), d) ∷ ((18, 1), e) ∷ ((18, 2), f) ∷ []))
 six true b c d e f = refl
@@ -92,7 +93,7 @@ abbrev Bounds15 : Line → Float → Float → Type 0
 Bounds15 l lo hi =
     (Finite lo → ⊥) ⊎ ((Finite hi → ⊥) ⊎ ((T (lt lo hi) → ⊥) ⊎ ((T (le (bounds_of l).lo lo) → ⊥) ⊎ NoEnds l.closed (bounds_of l) lo hi)))
 
-bounds15 : (l : Line) (lo hi : Float) → admit_of l ≡ Admitted → Tests (Bounds15 l lo hi) (not (range_fits l.closed (bounds_of l) lo hi))
+bounds15 : (l : Line) (lo hi : Float) → admit_of l ≡ Ok tt → Tests (Bounds15 l lo hi) (not (range_fits l.closed (bounds_of l) lo hi))
 unfolding range_fits
 bounds15 l lo hi ok = same to from (of_not (range_fits l.closed (bounds_of l) lo hi) inside)
   where
@@ -143,7 +144,7 @@ unfolding bounds_in
 by_knots true degree knots mults lo hi = (λ x. x, λ x. x)
 by_knots false degree knots mults lo hi = (λ x. x, λ x. x)
 
-pub test15 : (l : Line) (lo hi : Float) → admit_of l ≡ Admitted → Tests (Fault15 l lo hi) (not (range_fits l.closed (bounds_of l) lo hi))
+pub test15 : (l : Line) (lo hi : Float) → admit_of l ≡ Ok tt → Tests (Fault15 l lo hi) (not (range_fits l.closed (bounds_of l) lo hi))
 test15 l lo hi ok = same to from (bounds15 l lo hi ok)
   where
     to : Bounds15 l lo hi → Fault15 l lo hi
@@ -186,14 +187,14 @@ apart q = (
   ),
 )
 
-fine_place : (a : Asked) → ◌≡◌ {A = ℕ × ℕ} (asked_number a, asked_line a) (0, 0) → a ≡ Fine
-fine_place Fine e = refl
-fine_place (RangeOutOfBounds i) e = let z : ◌≡◌ {A = ℕ} 15 0 = ap (λ p. p.0) e in absurd (omega arith)
-fine_place GapOutOfRange e = let z : ◌≡◌ {A = ℕ} 16 0 = ap (λ p. p.0) e in absurd (omega arith)
-fine_place TooManySplits e = let z : ◌≡◌ {A = ℕ} 17 0 = ap (λ p. p.0) e in absurd (omega arith)
-fine_place (BreaksTooClose i) e = let z : ◌≡◌ {A = ℕ} 18 0 = ap (λ p. p.0) e in absurd (omega arith)
+fine_place : (a : Result Unit QuestionError) → ◌≡◌ {A = ℕ × ℕ} (asked_number a, asked_line a) (0, 0) → a ≡ Ok tt
+fine_place (Ok tt) e = refl
+fine_place (Err (RangeOutOfBounds i)) e = let z : ◌≡◌ {A = ℕ} 15 0 = ap (λ p. p.0) e in absurd (omega arith)
+fine_place (Err GapOutOfRange) e = let z : ◌≡◌ {A = ℕ} 16 0 = ap (λ p. p.0) e in absurd (omega arith)
+fine_place (Err TooManySplits) e = let z : ◌≡◌ {A = ℕ} 17 0 = ap (λ p. p.0) e in absurd (omega arith)
+fine_place (Err (BreaksTooClose i)) e = let z : ◌≡◌ {A = ℕ} 18 0 = ap (λ p. p.0) e in absurd (omega arith)
 
-module _ (q : Question) (ok1 : admit_of q.line1 ≡ Admitted) (ok2 : admit_of q.line2 ≡ Admitted) where
+module _ (q : Question) (ok1 : admit_of q.line1 ≡ Ok tt) (ok2 : admit_of q.line2 ≡ Ok tt) where
   met : (n : ℕ × ℕ) → QuestionFault n q → Met n (rows q)
   unfolding rows
   met n =
@@ -218,8 +219,8 @@ module _ (q : Question) (ok1 : admit_of q.line1 ≡ Admitted) (ok2 : admit_of q.
   refuses n f = number q ∙ met_first Earlier irreflexive transitive (0, 0) (rows q) n (in_order q) (met n f.0) (λ k lt m. f.1 k lt (of_met k m))
 
   -- ---- and for a question that is fine
-  pub passes : ask_of q ≡ Fine → (n : ℕ × ℕ) → QuestionFault n q → ⊥
+  pub passes : ask_of q ≡ Ok tt → (n : ℕ × ℕ) → QuestionFault n q → ⊥
   passes e n f = none_met Earlier irreflexive transitive (0, 0) (rows q) (apart q) (sym (number q) ∙ ap (λ a. (asked_number a, asked_line a)) e) n (met n f)
 
-  pub passed : ((n : ℕ × ℕ) → QuestionFault n q → ⊥) → ask_of q ≡ Fine
+  pub passed : ((n : ℕ × ℕ) → QuestionFault n q → ⊥) → ask_of q ≡ Ok tt
   passed h = fine_place (ask_of q) (number q ∙ met_none Earlier irreflexive transitive (0, 0) (rows q) (λ k m. h k (of_met k m)))

@@ -18,7 +18,7 @@ use Rattle.floats.proofs.Sums.{not_le_lt}
 use Rattle.lines.specs.Lines.{Line, line_of, with_datum}
 use Rattle.lines.specs.Admit.{two20, beyond_of, admit_of}
 use Rattle.lines.specs.Counts.{Counts}
-use Rattle.lines.specs.declared.Admission.TheVariants.{Admitted}
+use Rattle.std.specs.Prelude.{Ok}
 use Rattle.lines.proofs.Admitted.{counts}
 use Rattle.points.specs.declared.Interval.{Interval}
 use Rattle.knots.specs.Knots.{flat_knots, open_bounds, last_of, bounds_in, unrolled_of, line_flat, breaks_in, flat_of, bounds_of, breaks_of}
@@ -28,7 +28,8 @@ use Rattle.questions.specs.Questions.{range_fits, parted}
 use Rattle.facts.specs.Faults.{poles}
 use Rattle.facts.specs.Spans.{AllTwo, InSpan, span_number, net_span, own_span, InOneSpan}
 use Rattle.facts.proofs.Reflect.{as_true, is_true, both}
-use Rattle.facts.proofs.Cover.{lt_le, length-flat, every_at, every_flat}
+use Rattle.lines.proofs.Admitted.{every_at}
+use Rattle.facts.proofs.Cover.{lt_le, length-flat, every_flat}
 use Rattle.facts.proofs.Climbs.{Sorted, above_knots, rising_tail, numbers_of, sorted_at, climbs}
 use Rattle.facts.proofs.Spans.{false_of, never, span_opens, span_in, only_span}
 use Rattle.facts.proofs.Breaks.{both_two, for_all, passed-two, Outside, less_than_most, none_between, in_range, knot_at, end_is, around_is, around_in, around_low, around_high, meeting}
@@ -45,13 +46,13 @@ every_of t (x ∷ l) h = let e = as_true (t x) (h 0 (omega arith)) in rw e (ever
 -- ---- knots that passed 6 and 7
 module _ (knots : List Float) (six : every (within (neg two20) two20) knots ≡ true) (seven : each_two lt knots ≡ true) where
   pub knot_number : (i : ℕ) → i < length knots → Number (get_or knots i nan)
-  knot_number i h = numbers_of _ (every_at (within (neg two20) two20) knots i h six)
+  knot_number i h = numbers_of _ (every_at nan (within (neg two20) two20) knots i h six)
 
   pub knots_climb : (i j : ℕ) → i ≤ j → j < length knots → T (le (get_or knots i nan) (get_or knots j nan))
   knots_climb i j a b = sorted_at knots i j (sorted_knots knots seven) knot_number a b
 
   pub flat_number : (mults : List ℕ) (i : ℕ) → i < length (flat_knots knots mults) → Number (get_or (flat_knots knots mults) i nan)
-  flat_number mults i h = numbers_of _ (every_at (within (neg two20) two20) (flat_knots knots mults) i h (every_flat (within (neg two20) two20) knots mults six))
+  flat_number mults i h = numbers_of _ (every_at nan (within (neg two20) two20) (flat_knots knots mults) i h (every_flat (within (neg two20) two20) knots mults six))
 
 -- ---- the span of a parameter u among flat knots, u from number p on and below number length − 1 − p
 module _ (p : ℕ) (flat : List Float) (u : Float) (room : 2 * p + 2 ≤ length flat) (low : T (le (get_or flat p nan) u)) (high : T (lt u (get_or flat (length flat - 1 - p) nan))) where
@@ -148,7 +149,7 @@ of_breaks_lem lo hi knots less n e {R} f = both_two each b (in_range lo hi nl nh
     each t0 t1 r q = let m = middle-between t0 t1 q.0 in f t0 t1 r.0 r.1 m.0 m.1 q.1
 
 -- ---- an open line
-module _ (degree : ℕ) (knots : List Float) (mults : List ℕ) (coords weights : List Float) (datum : ℕ) (ok : admit_of (line_of false degree knots mults coords weights) ≡ Admitted) where
+module _ (degree : ℕ) (knots : List Float) (mults : List ℕ) (coords weights : List Float) (datum : ℕ) (ok : admit_of (line_of false degree knots mults coords weights) ≡ Ok tt) where
   abbrev l : Line
   l = with_datum datum (line_of false degree knots mults coords weights)
 
@@ -208,7 +209,7 @@ module _ (degree : ℕ) (knots : List Float) (mults : List ℕ) (coords weights 
     unfolding line_flat
     first_low =
         let e = every_of (λ y. le (get_or knots 0 nan) y) knots (λ i h. knots_climb knots known.knots_fit known.increasing 0 i (omega arith) h) in
-        let g = every_at (λ y. le (get_or knots 0 nan) y) (flat_of l) degree (let q = room in omega arith) (every_flat _ knots mults e) in
+        let g = every_at nan (λ y. le (get_or knots 0 nan) y) (flat_of l) degree (let q = room in omega arith) (every_flat _ knots mults e) in
         le_trans_float _ _ u (is_true _ g) low
 
     last_high : le (last_of knots) u ≡ false
@@ -216,7 +217,7 @@ module _ (degree : ℕ) (knots : List Float) (mults : List ℕ) (coords weights 
     last_high =
         let w = known.two_knots in
         let e = every_of (λ y. le y (last_of knots)) knots (λ i h. knots_climb knots known.knots_fit known.increasing i (length knots - 1) (omega arith) (omega arith)) in
-        let g = every_at (λ y. le y (last_of knots)) (flat_of l) (length (flat_of l) - 1 - degree) (let q = room in omega arith) (every_flat _ knots mults e) in
+        let g = every_at nan (λ y. le y (last_of knots)) (flat_of l) (length (flat_of l) - 1 - degree) (let q = room in omega arith) (every_flat _ knots mults e) in
         false_of _ (λ t. lt_not_le u _ high (le_trans_float _ _ u (is_true _ g) t))
 
   -- ---- two breaks

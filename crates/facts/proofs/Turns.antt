@@ -23,7 +23,7 @@ use Rattle.floats.proofs.Middle.{within_number}
 use Rattle.lines.specs.Lines.{Line, line_of, with_datum}
 use Rattle.lines.specs.Admit.{beyond_of, admit_of}
 use Rattle.lines.specs.Counts.{Counts}
-use Rattle.lines.specs.declared.Admission.TheVariants.{Admitted}
+use Rattle.std.specs.Prelude.{Ok}
 use Rattle.lines.proofs.Admitted.{counts, few_beyond}
 use Rattle.knots.specs.Knots.{flat_knots, last_of, bounds_in, period_of, shifted, unrolled_of, turn_flat, line_flat, flat_of, bounds_of, knots_of, breaks_of}
 use Rattle.knots.proofs.Laws.{length-shifted}
@@ -144,7 +144,7 @@ start_kept : (a b x : Float) → T (le a x) → T (lt x b) → start_unless a b 
 unfolding start_unless
 start_kept a b x h g = let e = as_true (le a x) h in let f = as_true (lt x b) g in rw (e, f) refl
 
-module _ (degree : ℕ) (knots : List Float) (mults : List ℕ) (coords weights : List Float) (datum : ℕ) (ok : admit_of (line_of true degree knots mults coords weights) ≡ Admitted) where
+module _ (degree : ℕ) (knots : List Float) (mults : List ℕ) (coords weights : List Float) (datum : ℕ) (ok : admit_of (line_of true degree knots mults coords weights) ≡ Ok tt) where
   abbrev l : Line
   l = with_datum datum (line_of true degree knots mults coords weights)
 

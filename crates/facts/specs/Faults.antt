@@ -1,5 +1,5 @@
 -- Document 01's table in its own words, numbers 4 to 18, with document 02's 22 and what it says of closed lines, and its 23: what a line, two data or a question meet. Definitions only.
-use Rattle.std.specs.Prelude.{◌≡◌, ◌⊎◌, Bool, true, false, cond, List, [], ◌∷◌, ℕ, ◌+◌, ◌-◌, ◌*◌, ◌/◌, ◌%◌, ◌^◌, ◌<◌, ◌≤◌, T, eqb, length, get_or, Float}
+use Rattle.std.specs.Prelude.{◌≡◌, ◌⊎◌, Bool, true, false, cond, List, [], ◌∷◌, ℕ, ◌+◌, ◌-◌, ◌*◌, ◌/◌, ◌%◌, ◌^◌, ◌<◌, ◌≤◌, T, eqb, length, get_or, Float, Option, Some, None, Result, Ok, Err}
 use Rattle.std.specs.Float.{nan, inf, fin, binary64}
 use Rattle.std.specs.Float.Ieee.{up, down, le, lt, sub}
 use Rattle.lists.specs.Members.{Any}
@@ -7,9 +7,13 @@ use Rattle.lists.specs.Tests.{total}
 use Rattle.floats.specs.Floats.{middle}
 use Rattle.floats.specs.Sizes.{Within}
 use Rattle.lines.specs.Lines.{Line, Question}
-use Rattle.lines.specs.Admit.{inner}
 use Rattle.knots.specs.Knots.{bounds_of, breaks_of}
-use Rattle.questions.specs.Questions.{asked_number, asked_line, ask_of}
+use Rattle.verdicts.specs.declared.Side.{Side}
+use Rattle.verdicts.specs.Verdicts.{side_number}
+use Rattle.lines.specs.declared.LineError.{LineError}
+use Rattle.lines.specs.Admit.{line_error_number, inner}
+use Rattle.questions.specs.declared.QuestionError.{QuestionError}
+use Rattle.questions.specs.Questions.{question_error_number, question_error_line, ask_of}
 
 -- some two neighbours are related
 abbrev pub AnyTwo : {A : Type 0} → (A → A → Type 0) → List A → Type 0
@@ -101,6 +105,11 @@ Fault13 l = Any (λ w. WithinFactor (2 ^ 10) w → ⊥) l.weights
 abbrev pub Fault14 : Line → Type 0
 Fault14 l = Any (λ x. Within (2 ^ 24) x → ⊥) l.coords
 
+-- the number that `admit` answers, 0 for an admitted line
+abbrev pub admit_number : Result Unit LineError → ℕ
+admit_number (Ok x) = 0
+admit_number (Err e) = line_error_number e
+
 -- the line meets the table's row of number n
 abbrev pub LineFault : ℕ → Line → Type 0
 LineFault n l =
@@ -156,6 +165,21 @@ QuestionFault n q =
 -- a smaller number, or the same of the first line
 abbrev pub Earlier : ℕ × ℕ → ℕ × ℕ → Type 0
 Earlier m n = (m.0 < n.0) ⊎ ((m.0 ≡ n.0) × (m.1 < n.1))
+
+-- the number that `ask` answers, 0 for a question that is fine
+abbrev pub asked_number : Result Unit QuestionError → ℕ
+asked_number (Ok x) = 0
+asked_number (Err e) = question_error_number e
+
+-- a line by its number, 0 for none
+abbrev pub side_place : Option Side → ℕ
+side_place None = 0
+side_place (Some s) = side_number s
+
+-- the line at fault
+abbrev pub asked_line : Result Unit QuestionError → ℕ
+asked_line (Ok x) = 0
+asked_line (Err e) = side_place (question_error_line e)
 
 -- the number that `ask` answers, and the line
 abbrev pub asked_place : Question → ℕ × ℕ

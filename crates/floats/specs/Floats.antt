@@ -38,10 +38,6 @@ half64 = of_bits binary64 0x3fe0_0000_0000_0000
 unfoldable pub middle : Float → Float → Float
 middle lo hi = mul binary64 half64 (add binary64 lo hi)
 
--- 2^53, up to which each whole number is a double
-abbrev pub two53 : Float
-two53 = of_bits binary64 0x4340_0000_0000_0000
-
 -- Rust's `f64::floor`: the greatest whole number that is not above x; x itself where it is whole, a NaN or an infinity. A negative x that isn't whole lies above −(q + 1), q its whole part
 unfoldable pub floor_of : Float → Float
 floor_of nan = nan

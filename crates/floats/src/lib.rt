@@ -1,13 +1,13 @@
 // Least, greatest, middle, floor and vectors of f64, one rounding a step.
 #![tactic(auto)]
 
-ghost use Rattle.std.specs.Prelude.{◌≡◌, true, cond, ◌+◌, ◌<◌, ◌≤◌, pos};
-ghost use Rattle.std.specs.Float.{binary64};
-ghost use Rattle.std.specs.Float.Ieee.{lt, le, of_int};
+ghost use Rattle.std.specs.Prelude.{◌≡◌, cond};
+ghost use Rattle.std.specs.Float.Ieee.{lt, le};
 ghost use Rattle.roots.specs.Root.{root_of};
-ghost use Rattle.floats.specs.Floats.{least, greatest, within, zero64, two53, middle, floor_of};
+ghost use Rattle.floats.specs.Floats.{least, greatest, within, middle, floor_of};
 ghost use Rattle.floats.specs.Vectors.{sub_of, dot_of, cross_of, norm_of};
 
+// Least and greatest stay two: one function over the order is no plainer, since the order is all that each says.
 // b where it is less than a, else a: one instruction of the machine.
 fn lower(a: f64, b: f64) -> f64
     ensures { result ≡ cond (lt b a) b a }
@@ -56,56 +56,12 @@ pub fn mean(a: f64, b: f64) -> f64
     0.5 * (a + b)
 }
 
-// A whole number above x, to start from.
-fn width(x: f64) -> u64
-    requires { lt x two53 ≡ true }
-    ensures { (lt x (of_int binary64 (pos result)) ≡ true) × (1 ≤ result) × (result ≤ 9007199254740992) }
-{
-    if x < 4.0 {
-        return 4;
-    }
-    9007199254740992
-}
-
-// The whole number n with n <= x < n + 1, for an x from 0 to below 2^53. It lies from n to below n + w, and w is halved until it is 1.
-fn whole_below(x: f64) -> u64
-    requires { (le zero64 x ≡ true) × (lt x two53 ≡ true) }
-    ensures { (le (of_int binary64 (pos result)) x ≡ true) × (lt x (of_int binary64 (pos (result + 1))) ≡ true) × (result < 9007199254740992) }
-{
-    let mut n: u64 = 0;
-    let mut w = width(x);
-    while w > 1 {
-        let h = w / 2;
-        if (n + h) as f64 <= x {
-            n += h;
-            w -= h;
-        } else {
-            w = h;
-        }
-    }
-    n
-}
-
-// The greatest whole number that is not above x, as Rust's `f64::floor`; x itself where it is whole, a NaN or an infinity.
+// The greatest whole number that is not above x; x itself where it is whole, a NaN or an infinity.
+#[tactic(auto, using(crate::proofs::Wholes::floor_is))]
 pub fn floor(x: f64) -> f64
     ensures { result ≡ floor_of x }
 {
-    if x >= 0.0 {
-        if x < 9007199254740992.0 {
-            let below = whole_below(x) as f64;
-            if below < x {
-                return below;
-            }
-        }
-        return x;
-    }
-    if x > -9007199254740992.0 {
-        let n = whole_below(-x);
-        if (n as f64) < -x {
-            return -((n + 1) as f64);
-        }
-    }
-    x
+    x.floor()
 }
 
 #[derive(Clone, Copy)]

@@ -1,13 +1,14 @@
 -- Laws of the loops: repeated knots, flat knots, breaks, and what stays behind them. Assumes nothing.
 use mathlib.Core.Path.{◌≡◌, refl, sym, ap, ◌∙◌, subst}
-use mathlib.Core.Bool.{Bool, true, false, cond}
+use mathlib.Core.Bool.{Bool, true, false}
 use mathlib.Core.List.{List, [], ◌∷◌, ◌++◌, append_assoc, append-nil}
 use Prim.Native.Nat.{ℕ, zero, suc, ◌+◌, ◌-◌, ◌≤◌, ◌<◌}
 use native.Mathlib.Nat.{add-zero, zero-add, le_of_eq, le_trans}
 use native.Mathlib.Numerals.{add-one}
 use native.Mathlib.Omega.{arith}
-use lib.ListN.{length, get_or, take, drop, set, take-append-drop, length-drop}
-use lib.Seq.{take-suc-set, take-set-le, drop-set-lt, drop-cons, drop-drop, take-append-add, drop-append-add, length-take-le, get_or-take, take_all}
+use lib.ListN.{length, get_or, take, drop, set, replicate, take-append-drop, length-drop}
+use lib.Seq.{take-suc-set, drop-set-lt, drop-cons, drop-drop, take-append-add, length-take-le, get_or-take, take_all}
+use Rattle.std.proofs.lemmas.List.{length-replicate}
 use lib.Ieee.{Float, binary64, add, neg, nan}
 use Rattle.lists.proofs.Loops.{nothing_left}
 use Rattle.knots.specs.Knots.{repeated, flat_knots, open_bounds, period_of, shifted, unrolled_of, turn_flat, line_flat, turn_poles, inside, between, breaks_in}
@@ -23,63 +24,34 @@ patched n out out₀ l h e f =
     rw (zero-add, k) (sym (take-append-drop n out) ∙ ap (λ z. z ++ drop n out) e ∙ ap (λ z. l ++ z) f)
 
 -- equal from number a on, so also further on
-further : {A : Type 0} (a m : ℕ) (s t : List A) → drop a s ≡ drop a t → drop (a + m) s ≡ drop (a + m) t
+pub further : {A : Type 0} (a m : ℕ) (s t : List A) → drop a s ≡ drop a t → drop (a + m) s ≡ drop (a + m) t
 further a m s t e = sym (drop-drop m a s) ∙ ap (drop m) e ∙ drop-drop m a t
 
--- ---- repeat
-pub repeat_turn : (k : Float) (s : List Float) (x end : ℕ) → x < end → x < length s
-    → take (x + 1) (set s x k) ++ repeated (end - (x + 1)) k (drop end (set s x k)) ≡ take x s ++ repeated (end - x) k (drop end s)
-unfolding repeated
-repeat_turn k s x end lt h =
-    let j : end - x ≡ suc (end - (x + 1)) = omega arith in
-    rw (j, add-one, take-suc-set s x k h, drop-set-lt end s x k lt, append_assoc) refl
-
-pub repeat_done : (k : Float) (s r : List Float) (x end : ℕ) → x ≤ end → end ≤ x → take x s ++ repeated (end - x) k (drop end s) ≡ r → s ≡ r
-unfolding repeated
-repeat_done k s r x end h g e =
-    let z : end - x ≡ 0 = omega arith in
-    let y : x ≡ end = omega arith in
-    sym (take-append-drop x s) ∙ ap (λ n. take x s ++ drop n s) y ∙ (rw z at e)
-
 -- ---- flat
-take-repeated : (m : ℕ) (k : Float) (l : List Float) → take m (repeated m k l) ≡ repeated m k []
+repeated_is : (m : ℕ) (k : Float) (l : List Float) → replicate m k ++ l ≡ repeated m k l
 unfolding repeated
-take-repeated zero k l = refl
-take-repeated (suc m) k l = ap (λ z. k ∷ z) (take-repeated m k l)
+repeated_is zero k l = refl
+repeated_is (suc m) k l = ap (λ z. k ∷ z) (repeated_is m k l)
 
-repeated_append : (m : ℕ) (k : Float) (l : List Float) → repeated m k [] ++ l ≡ repeated m k l
-unfolding repeated
-repeated_append zero k l = refl
-repeated_append (suc m) k l = ap (λ z. k ∷ z) (repeated_append m k l)
+-- the m places that a knot of multiplicity m is stored in
+pub places : (out new : List Float) (k : Float) (at m : ℕ) → at + m ≤ length out → new ≡ replicate (length (take (at + m - at) (drop at out))) k
+    → (new ≡ replicate m k) × (length new ≡ m)
+places out new k at m h e =
+    let d = length-drop at out in
+    let j : length (take (at + m - at) (drop at out)) ≡ at + m - at = length-take-le (at + m - at) (drop at out) (omega (arith, d)) in
+    let n : at + m - at ≡ m = omega arith in
+    let f : new ≡ replicate m k = e ∙ ap (λ z. replicate z k) (j ∙ n) in
+    (f, ap length f ∙ length-replicate m k)
 
-pub flat-turn : (ks : List Float) (ms : List ℕ) (out out' : List Float) (at i m : ℕ) → i < length ks → i < length ms → at ≤ length out → m ≡ get_or ms i 0
-    → out' ≡ take at out ++ repeated m (get_or ks i nan) (drop (at + m) out)
-    → take (at + m) out' ++ flat_knots (drop (i + 1) ks) (drop (i + 1) ms) ≡ take at out ++ flat_knots (drop i ks) (drop i ms)
+pub flat-turn : (ks : List Float) (ms : List ℕ) (s new : List Float) (i : ℕ) → i < length ks → i < length ms → new ≡ replicate (get_or ms i 0) (get_or ks i nan)
+    → (s ++ new) ++ flat_knots (drop (i + 1) ks) (drop (i + 1) ms) ≡ s ++ flat_knots (drop i ks) (drop i ms)
 unfolding flat_knots
-flat-turn ks ms out out' at i m lk lm h em e =
-    let l : length (take at out) ≡ at = length-take-le at out h in
-    let q : at + m ≡ length (take at out) + m = omega arith in
-    let a : take (at + m) out' ≡ take at out ++ repeated m (get_or ks i nan) [] =
-    ap (take (at + m)) e ∙ ap (λ n. take n (take at out ++ repeated m (get_or ks i nan) (drop (at + m) out))) q
-    ∙ take-append-add (take at out) (repeated m (get_or ks i nan) (drop (at + m) out)) m
-    ∙ ap (λ z. take at out ++ z) (take-repeated m (get_or ks i nan) (drop (at + m) out)) in
-    rw (a, append_assoc, repeated_append m (get_or ks i nan) (flat_knots (drop (i + 1) ks) (drop (i + 1) ms)), drop-cons ks i nan lk, drop-cons ms i 0 lm, add-one, em) refl
+flat-turn ks ms s new i lk lm e =
+    rw (e, append_assoc, repeated_is (get_or ms i 0) (get_or ks i nan), drop-cons ks i nan lk, drop-cons ms i 0 lm, add-one i) refl
 
 pub flat_done : (ks : List Float) (ms : List ℕ) (out r : List Float) (at i : ℕ) → length ks ≤ i → take at out ++ flat_knots (drop i ks) (drop i ms) ≡ r → take at out ≡ r
 unfolding flat_knots
 flat_done ks ms out r at i h e = sym (append-nil (take at out)) ∙ (rw (nothing_left ks i h) at e)
-
-drop-repeated : (m : ℕ) (k : Float) (l : List Float) → drop m (repeated m k l) ≡ l
-unfolding repeated
-drop-repeated zero k l = refl
-drop-repeated (suc m) k l = drop-repeated m k l
-
-pub flat-rest : (k : Float) (out out' out₀ : List Float) (at m : ℕ) → at ≤ length out → out' ≡ take at out ++ repeated m k (drop (at + m) out)
-    → drop at out ≡ drop at out₀ → drop (at + m) out' ≡ drop (at + m) out₀
-flat-rest k out out' out₀ at m h e f =
-    let q : at + m ≡ length (take at out) + m = ap (λ n. n + m) (sym (length-take-le at out h)) in
-    ap (drop (at + m)) e ∙ ap (λ n. drop n (take at out ++ repeated m k (drop (at + m) out))) q
-    ∙ drop-append-add (take at out) (repeated m k (drop (at + m) out)) m ∙ drop-repeated m k (drop (at + m) out) ∙ further at m out out₀ f
 
 -- ---- bounds
 at-start : (n i : ℕ) (f l : List Float) → take n f ≡ l → i < n → get_or f i nan ≡ get_or l i nan
@@ -97,30 +69,28 @@ pub breaks_start : (lo : Float) (s l : List Float) → 0 < length s → take 1 (
 breaks_start lo [] l h = absurd (omega arith)
 breaks_start lo (x ∷ s) l h = refl
 
-pub breaks_turn : (lo hi : Float) (ks t s : List Float) (n i r : ℕ) → i < length ks → n < length s → r ≡ cond (inside lo hi (get_or ks i nan)) 1 0
-    → take (n + r) (set s n (get_or ks i nan)) ++ between lo hi (drop (i + 1) ks) t ≡ take n s ++ between lo hi (drop i ks) t
+pub breaks_turn : (lo hi : Float) (ks t s : List Float) (n i : ℕ) → i < length ks → n < length s → inside lo hi (get_or ks i nan) ≡ true
+    → take (n + 1) (set s n (get_or ks i nan)) ++ between lo hi (drop (i + 1) ks) t ≡ take n s ++ between lo hi (drop i ks) t
 unfolding between
-breaks_turn lo hi ks t s n i r lk h e = rw (drop-cons ks i nan lk, e, add-one i) (go (inside lo hi (get_or ks i nan)))
-  where
-    go : (b : Bool)
-        → take (n + cond b 1 0) (set s n (get_or ks i nan)) ++ between lo hi (drop (suc i) ks) t
-        ≡ take n s ++ cond b (get_or ks i nan ∷ between lo hi (drop (suc i) ks) t) (between lo hi (drop (suc i) ks) t)
-    go true = rw (add-one, take-suc-set s n (get_or ks i nan) h, append_assoc) refl
-    go false = rw (add-zero, take-set-le n s n (get_or ks i nan) (omega arith)) refl
+breaks_turn lo hi ks t s n i lk h e = rw (drop-cons ks i nan lk, e, add-one n, add-one i, take-suc-set s n (get_or ks i nan) h, append_assoc) refl
+
+pub breaks_skip : (lo hi : Float) (ks t : List Float) (i : ℕ) → i < length ks → inside lo hi (get_or ks i nan) ≡ false
+    → between lo hi (drop (i + 1) ks) t ≡ between lo hi (drop i ks) t
+unfolding between
+breaks_skip lo hi ks t i lk e = rw (drop-cons ks i nan lk, e, add-one i) refl
 
 pub breaks_done : (lo hi : Float) (ks s r : List Float) (n i : ℕ) → length ks ≤ i → n < length s → take n s ++ between lo hi (drop i ks) (hi ∷ []) ≡ r
     → take (n + 1) (set s n hi) ≡ r
 unfolding between
 breaks_done lo hi ks s r n i h g e = rw (add-one, take-suc-set s n hi g) (rw (nothing_left ks i h) at e)
 
-pub breaks_rest : (s s₀ : List Float) (v : Float) (n r : ℕ) → drop (n + 1) s ≡ drop (n + 1) s₀ → drop (n + r + 1) (set s n v) ≡ drop (n + r + 1) s₀
-breaks_rest s s₀ v n r e =
-    let q : n + r + 1 ≡ n + 1 + r = omega arith in
-    drop-set-lt (n + r + 1) s n v (omega arith) ∙ rw q (further (n + 1) r s s₀ e)
+-- behind a break that is stored all is as it was
+pub behind : (s s₀ : List Float) (v : Float) (n : ℕ) → drop n s ≡ drop n s₀ → drop (n + 1) (set s n v) ≡ drop (n + 1) s₀
+behind s s₀ v n e = drop-set-lt (n + 1) s n v (omega arith) ∙ further n 1 s s₀ e
 
 -- behind the last break, which is stored last, all is as it was before the first was stored
-pub breaks_behind : (s s₀ : List Float) (lo hi : Float) (n : ℕ) → drop (n + 1) s ≡ drop (n + 1) (set s₀ 0 lo) → drop (n + 1) (set s n hi) ≡ drop (n + 1) s₀
-breaks_behind s s₀ lo hi n e = drop-set-lt (n + 1) s n hi (omega arith) ∙ e ∙ drop-set-lt (n + 1) s₀ 0 lo (omega arith)
+pub breaks_behind : (s s₀ : List Float) (lo hi : Float) (n : ℕ) → 1 ≤ n → drop n s ≡ drop n (set s₀ 0 lo) → drop (n + 1) (set s n hi) ≡ drop (n + 1) s₀
+breaks_behind s s₀ lo hi n h e = behind s (set s₀ 0 lo) hi n e ∙ drop-set-lt (n + 1) s₀ 0 lo (omega arith)
 
 -- ---- a shift
 pub shift_turn : (d : Float) (s out : List Float) (i : ℕ) → i < length s → i < length out
@@ -154,9 +124,6 @@ unrolled_built knots first second l m e f =
 pub unrolled_open : (closed : Bool) (knots : List Float) → closed ≡ false → knots ≡ unrolled_of closed knots
 unfolding unrolled_of
 unrolled_open closed knots e = rw e refl
-
-pub unrolled_closed : (closed : Bool) (knots : List Float) → closed ≡ true → unrolled_of true knots ≡ unrolled_of closed knots
-unrolled_closed closed knots e = ap (λ (b : Bool). unrolled_of b knots) (sym e)
 
 -- the breaks of equal knots
 abbrev Broken : ℕ → List Float → List Float → Float → Float → List Float → Type 0
@@ -194,10 +161,9 @@ turn_before n p flat out h g k =
     go = omega arith
 
 -- ---- the flat knots of a line's nets
-pub beyond_last : (degree : ℕ) (knots : List Float) (mults : List ℕ) (m k : ℕ) → length mults ≡ length knots → m ≡ get_or mults (length knots - 1) 0 → k ≡ m
-    → beyond_of true degree mults ≡ k
+pub beyond_last : (degree : ℕ) (knots : List Float) (mults : List ℕ) → length mults ≡ length knots → beyond_of true degree mults ≡ get_or mults (length knots - 1) 0
 unfolding beyond_of
-beyond_last degree knots mults m k e f g = ap (λ (n : ℕ). get_or mults (n - 1) 0) e ∙ sym f ∙ sym g
+beyond_last degree knots mults e = ap (λ (n : ℕ). get_or mults (n - 1) 0) e
 
 pub flat-closed : (degree p n e : ℕ) (knots : List Float) (mults : List ℕ) (flat out l : List Float) → p ≡ degree → n ≡ total mults - beyond_of true degree mults
     → flat ≡ flat_knots knots mults → out ≡ turn_flat p n (period_of knots) flat → length out ≡ e → take e (out ++ l) ≡ line_flat true degree knots mults
@@ -208,15 +174,6 @@ pub flat_open : (closed : Bool) (degree : ℕ) (knots : List Float) (mults : Lis
     → l ≡ line_flat closed degree knots mults
 unfolding line_flat
 flat_open closed degree knots mults l c e = rw c e
-
--- where the line is closed, what is known of it and said of it is what is known and said of a closed line
-pub flat_known : (closed : Bool) (degree : ℕ) (mults : List ℕ) → closed ≡ true → beyond_of closed degree mults ≡ beyond_of true degree mults
-flat_known closed degree mults e = ap (λ (b : Bool). beyond_of b degree mults) e
-
-pub flat-said : (closed : Bool) (degree r : ℕ) (knots : List Float) (mults : List ℕ) (l : List Float) → closed ≡ true → r ≡ total mults - beyond_of true degree mults + degree + (degree + 1)
-    → l ≡ line_flat true degree knots mults
-    → (r ≡ turn_poles closed degree (total mults - beyond_of closed degree mults) + (degree + 1)) × (l ≡ line_flat closed degree knots mults)
-flat-said closed degree r knots mults l c e f = rw c (e, f)
 
 pub open_beyond : (closed : Bool) (degree : ℕ) (mults : List ℕ) → closed ≡ false → beyond_of closed degree mults ≡ degree + 1
 unfolding beyond_of

@@ -1,5 +1,5 @@
 -- A line's flat knots and bounds, its knots unrolled, and the breaks of an asked range. Definitions only.
-use Rattle.std.specs.Prelude.{ℕ, zero, suc, ◌+◌, ◌-◌, Bool, false, cond, List, [], ◌∷◌, ◌++◌, length, get_or, take, drop, Float}
+use Rattle.std.specs.Prelude.{◌≡◌, ℕ, zero, suc, ◌+◌, ◌-◌, ◌≤◌, Bool, false, cond, List, [], ◌∷◌, ◌++◌, length, get_or, take, drop, Float}
 use Rattle.std.specs.Float.{binary64, nan}
 use Rattle.std.specs.Float.Ieee.{add, sub, neg, lt}
 use Rattle.lists.specs.Tests.{total}
@@ -7,6 +7,23 @@ use Rattle.points.specs.declared.Interval.{Interval}
 use Rattle.lines.specs.Lines.{Line}
 use Rattle.lines.specs.Admit.{beyond_of}
 
+-- ---- what the contracts ask
+-- from 1 to 128 knots: unrolled at most 255, and 257 breaks
+abbrev pub HasKnots : List Float → Type 0
+HasKnots knots = (1 ≤ length knots) × (length knots ≤ 128)
+
+-- a multiplicity a knot, and enough flat knots to have bounds: room for 154 holds them
+abbrev pub HasBounds : ℕ → List Float → List ℕ → Type 0
+HasBounds degree knots mults = (length mults ≡ length knots) × (degree + 1 ≤ total mults) × (total mults ≤ 154)
+
+-- a multiplicity a knot, and poles from degree + 1 to 128: room for 179 holds the flat knots of a line's nets
+abbrev pub HasTurn : Bool → ℕ → List Float → List ℕ → Type 0
+HasTurn closed degree knots mults =
+    (1 ≤ length knots) × (length mults ≡ length knots) × (degree ≤ 25)
+    × (1 ≤ beyond_of closed degree mults) × (beyond_of closed degree mults ≤ degree + 1)
+    × (degree + 1 + beyond_of closed degree mults ≤ total mults) × (total mults ≤ 128 + beyond_of closed degree mults)
+
+-- ---- flat knots
 -- k, n times, before l
 unfoldable pub repeated : ℕ → Float → List Float → List Float
 repeated zero k l = l

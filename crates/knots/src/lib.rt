@@ -4,50 +4,15 @@
 ghost use Rattle.std.specs.Prelude.{◌≡◌, true, cond, ◌++◌, ◌+◌, ◌-◌, ◌*◌, ◌≤◌, length, take, drop};
 ghost use Rattle.lists.specs.Parts.{patch};
 ghost use Rattle.lists.specs.Tests.{total};
-ghost use Rattle.knots.specs.Knots.{repeated, flat_knots, open_bounds, bounds_in, shifted, unrolled_of, turn_flat, line_flat, turn_poles, inside, breaks_in};
 ghost use Rattle.lines.specs.Admit.{beyond_of};
+ghost use Rattle.lines.specs.Lines.{seen};
+ghost use Rattle.knots.specs.Knots.{HasKnots, HasTurn, HasBounds, flat_knots, open_bounds, bounds_of, shifted, unrolled_of, turn_flat, line_flat, flat_of, turn_poles, inside, breaks_in};
 
-// Room for the flat knots of any admitted line: those of 128 poles and degree 25, and on a closed line 25 more at the front.
-pub fn flat_room() -> [f64; 179]
-    ensures { length result ≡ 179 }
-{
-    [0.0f64; 179]
-}
-
-// Room for a line's knots over two turns: 128 knots, and all but the first again.
-pub fn turn_room() -> [f64; 255]
-    ensures { length result ≡ 255 }
-{
-    [0.0f64; 255]
-}
-
-// Room for the breaks of any asked range: 255 knots and the two ends.
-pub fn break_room() -> [f64; 257]
-    ensures { length result ≡ 257 }
-{
-    [0.0f64; 257]
-}
-
-pub fn count(x: u32) -> usize
-    ensures { result ≡ x }
-{
-    x as usize
-}
-
-// `k`, `n` times from `at` on.
-fn repeat(out: &mut [f64], at: usize, n: usize, k: f64)
-    requires { at + n ≤ length out.old }
-    ensures { out.new ≡ take at out.old ++ repeated n k (drop (at + n) out.old) }
-{
-    let end = at + n;
-    let mut x = at;
-    while x < end {
-        out[x] = k;
-        x += 1;
-    }
-}
+use lines::Line;
+use points::Interval;
 
 // Each knot as often as its multiplicity says; answers how many these are.
+// What fills the front of `out` answers how much, and not that front as a slice: of `out` after the loan it could promise nothing.
 pub fn flat_knots(knots: &[f64], mults: &[u32], out: &mut [f64]) -> usize
     requires { (length mults.now ≡ length knots.now) × (total mults.now ≤ length out.old) }
     ensures { (result ≡ total mults.now)
@@ -55,12 +20,10 @@ pub fn flat_knots(knots: &[f64], mults: &[u32], out: &mut [f64]) -> usize
         × (take result out.new ≡ flat_knots knots.now mults.now) }
 {
     let mut at = 0;
-    let mut i = 0;
-    while i < knots.len() {
-        let m = count(mults[i]);
-        repeat(out, at, m, knots[i]);
+    for (i, k) in knots.iter().enumerate() {
+        let m = mults[i] as usize;
+        out[at..at + m].fill(*k);
         at += m;
-        i += 1;
     }
     at
 }
@@ -70,10 +33,8 @@ fn shift(s: &[f64], d: f64, out: &mut [f64])
     requires { length s.now ≡ length out.old }
     ensures { out.new ≡ shifted d s.now }
 {
-    let mut i = 0;
-    while i < s.len() {
-        out[i] = s[i] + d;
-        i += 1;
+    for (i, x) in s.iter().enumerate() {
+        out[i] = *x + d;
     }
 }
 
@@ -92,64 +53,69 @@ pub fn flat_turn(flat: &[f64], n: usize, p: usize, period: f64, out: &mut [f64])
 }
 
 // The flat knots of a closed line's nets; see `line_flat`.
-fn closed_flat(degree: u32, knots: &[f64], mults: &[u32], out: &mut [f64]) -> usize
-    requires in_bounds { (1 ≤ length knots.now) × (length mults.now ≡ length knots.now) × (length out.old ≡ 179) }
-    requires fact { let m = beyond_of true degree mults.now in
-        (degree ≤ 25) × (1 ≤ m) × (m ≤ degree + 1) × (degree + 1 + m ≤ total mults.now) × (total mults.now ≤ 128 + m) }
-    ensures { (result ≡ total mults.now - beyond_of true degree mults.now + degree + (degree + 1))
-        × (take result out.new ≡ line_flat true degree knots.now mults.now) }
+#[tactic(auto, using(crate::proofs::Laws::beyond_last))]
+fn closed_flat(l: Line, out: &mut [f64]) -> usize
+    requires in_bounds { length out.old ≡ 179 }
+    requires fact { HasTurn true l.degree l.knots.now l.mults.now }
+    ensures { let s = seen l.entry in
+        (result ≡ total s.mults - beyond_of true s.degree s.mults + s.degree + (s.degree + 1))
+        × (take result out.new ≡ line_flat true s.degree s.knots s.mults) }
 {
-    let mut f = flat_room();
-    let all = flat_knots(knots, mults, &mut f);
-    let last = knots.len() - 1;
-    let n = all - count(mults[last]);
-    let p = count(degree);
+    let mut f = [0.0; 179];
+    // the front by its count, as at `flat_knots`
+    let all = flat_knots(l.knots, l.mults, &mut f);
+    let last = l.knots.len() - 1;
+    let n = all - l.mults[last] as usize;
+    let p = l.degree as usize;
     let end = n + p + (p + 1);
-    flat_turn(&f[..all], n, p, knots[last] - knots[0], &mut out[..end]);
+    let period = l.knots[last] - l.knots[0];
+    flat_turn(&f[..all], n, p, period, &mut out[..end]);
     end
 }
 
 // The flat knots that a line's nets are made with, from the front of `out`; answers how many these are.
-pub fn line_flat(closed: bool, degree: u32, knots: &[f64], mults: &[u32], out: &mut [f64]) -> usize
-    requires in_bounds { (1 ≤ length knots.now) × (length mults.now ≡ length knots.now) × (length out.old ≡ 179) }
-    requires fact { let m = beyond_of closed degree mults.now in
-        (degree ≤ 25) × (1 ≤ m) × (m ≤ degree + 1) × (degree + 1 + m ≤ total mults.now) × (total mults.now ≤ 128 + m) }
-    ensures { (result ≡ turn_poles closed degree (total mults.now - beyond_of closed degree mults.now) + (degree + 1))
-        × (take result out.new ≡ line_flat closed degree knots.now mults.now) }
+pub fn line_flat(l: Line, out: &mut [f64]) -> usize
+    requires in_bounds { length out.old ≡ 179 }
+    requires fact { HasTurn l.closed l.degree l.knots.now l.mults.now }
+    ensures { let s = seen l.entry in
+        (result ≡ turn_poles s.closed s.degree (total s.mults - beyond_of s.closed s.degree s.mults) + (s.degree + 1))
+        × (take result out.new ≡ flat_of s) }
 {
-    if closed {
-        return closed_flat(degree, knots, mults, out);
+    if l.closed {
+        closed_flat(l, out)
+    } else {
+        flat_knots(l.knots, l.mults, out)
     }
-    flat_knots(knots, mults, out)
 }
 
 // The parameter range of an open line.
-fn open_bounds(degree: u32, knots: &[f64], mults: &[u32]) -> points::Interval
-    requires { (length mults.now ≡ length knots.now) × (degree + 1 ≤ total mults.now) × (total mults.now ≤ 154) }
-    ensures { result ≡ open_bounds degree knots.now mults.now }
+fn open_bounds(l: Line) -> Interval
+    requires { HasBounds l.degree l.knots.now l.mults.now }
+    ensures { let s = seen l.entry in
+        result ≡ open_bounds s.degree s.knots s.mults }
 {
-    let mut flat = flat_room();
-    let n = flat_knots(knots, mults, &mut flat);
-    let first = count(degree);
+    let mut flat = [0.0; 179];
+    let n = flat_knots(l.knots, l.mults, &mut flat);
+    let first = l.degree as usize;
     let last = n - first - 1;
-    points::Interval {
+    Interval {
         lo: flat[first],
         hi: flat[last],
     }
 }
 
 // The parameter range of a line.
-pub fn bounds(closed: bool, degree: u32, knots: &[f64], mults: &[u32]) -> points::Interval
-    requires { (2 ≤ length knots.now) × (length mults.now ≡ length knots.now) × (degree + 1 ≤ total mults.now) × (total mults.now ≤ 154) }
-    ensures { result ≡ bounds_in closed degree knots.now mults.now }
+pub fn bounds(l: Line) -> Interval
+    requires { (2 ≤ length l.knots.now) × HasBounds l.degree l.knots.now l.mults.now }
+    ensures { result ≡ bounds_of (seen l.entry) }
 {
-    if closed {
-        return points::Interval {
-            lo: knots[0],
-            hi: knots[knots.len() - 1],
+    if l.closed {
+        return Interval {
+            lo: l.knots[0],
+            hi: l.knots[l.knots.len() - 1],
         };
     }
-    open_bounds(degree, knots, mults)
+    open_bounds(l)
 }
 
 // A closed line's knots from the front of `out`, and each but the first again, a period later; answers how many these are.
@@ -165,66 +131,65 @@ pub fn unrolled(knots: &[f64], out: &mut [f64]) -> usize
     end
 }
 
-// 1 for a knot strictly between, else 0.
-fn kept(lo: f64, hi: f64, k: f64) -> usize
-    ensures { (result ≡ cond (inside lo hi k) 1 0) × (result ≤ 1) }
+// Whether a knot lies strictly between the ends.
+#[tactic(auto, unfolding(crate::specs::Knots::inside))]
+fn is_inside(r: Interval, k: f64) -> bool
+    ensures { result ≡ inside r.lo r.hi k }
 {
-    if lo < k {
-        if k < hi {
-            return 1;
-        }
-        return 0;
-    }
-    0
+    r.lo < k && k < r.hi
 }
 
-// lo, the knots strictly between, hi; answers how many these are. A knot that isn't kept is stored over by the next.
-pub fn breaks_of(knots: &[f64], lo: f64, hi: f64, out: &mut [f64]) -> usize
+// lo, the knots strictly between, hi; answers how many these are.
+pub fn breaks_of(knots: &[f64], r: Interval, out: &mut [f64]) -> usize
     requires { length knots.now + 2 ≤ length out.old }
-    ensures { (result ≡ length (breaks_in lo hi knots.now))
-        × (out.new ≡ patch out.old 0 (breaks_in lo hi knots.now))
-        × (take result out.new ≡ breaks_in lo hi knots.now)
+    ensures { let b = breaks_in r.lo r.hi knots.now in
+        (result ≡ length b)
+        × (out.new ≡ patch out.old 0 b)
+        × (take result out.new ≡ b)
         × (2 ≤ result)
         × (result ≤ length knots.now + 2) }
 {
-    out[0] = lo;
+    out[0] = r.lo;
     let mut n = 1;
-    let mut i = 0;
-    while i < knots.len() {
-        let k = knots[i];
-        out[n] = k;
-        n += kept(lo, hi, k);
-        i += 1;
+    for k in knots {
+        if is_inside(r, *k) {
+            out[n] = *k;
+            n += 1;
+        }
     }
-    out[n] = hi;
+    out[n] = r.hi;
     n + 1
 }
 
 // The breaks of a closed line's range.
-fn turn_breaks(knots: &[f64], lo: f64, hi: f64, out: &mut [f64]) -> usize
-    requires { (1 ≤ length knots.now) × (length knots.now ≤ 128) × (2 * length knots.now + 1 ≤ length out.old) }
-    ensures { (result ≡ length (breaks_in lo hi (unrolled_of true knots.now)))
-        × (out.new ≡ patch out.old 0 (breaks_in lo hi (unrolled_of true knots.now)))
-        × (take result out.new ≡ breaks_in lo hi (unrolled_of true knots.now))
+fn turn_breaks(knots: &[f64], r: Interval, out: &mut [f64]) -> usize
+    requires { HasKnots knots.now × (2 * length knots.now + 1 ≤ length out.old) }
+    ensures { let b = breaks_in r.lo r.hi (unrolled_of true knots.now) in
+        (result ≡ length b)
+        × (out.new ≡ patch out.old 0 b)
+        × (take result out.new ≡ b)
         × (2 ≤ result)
         × (result ≤ 2 * length knots.now + 1) }
 {
-    let mut all = turn_room();
+    let mut all = [0.0; 255];
+    // the front by its count, as at `flat_knots`
     let n = unrolled(knots, &mut all);
-    breaks_of(&all[..n], lo, hi, out)
+    breaks_of(&all[..n], r, out)
 }
 
 // The breaks of a range: lo, the knots strictly between, hi; a closed line's knots are unrolled. Answers how many these are.
-pub fn breaks(closed: bool, knots: &[f64], lo: f64, hi: f64, out: &mut [f64]) -> usize
-    requires { (1 ≤ length knots.now) × (length knots.now ≤ 128) × (2 * length knots.now + 1 ≤ length out.old) }
-    ensures { (result ≡ length (breaks_in lo hi (unrolled_of closed knots.now)))
-        × (out.new ≡ patch out.old 0 (breaks_in lo hi (unrolled_of closed knots.now)))
-        × (take result out.new ≡ breaks_in lo hi (unrolled_of closed knots.now))
+pub fn breaks(closed: bool, knots: &[f64], r: Interval, out: &mut [f64]) -> usize
+    requires { HasKnots knots.now × (2 * length knots.now + 1 ≤ length out.old) }
+    ensures { let b = breaks_in r.lo r.hi (unrolled_of closed knots.now) in
+        (result ≡ length b)
+        × (out.new ≡ patch out.old 0 b)
+        × (take result out.new ≡ b)
         × (2 ≤ result)
         × (result ≤ 2 * length knots.now + 1) }
 {
     if closed {
-        return turn_breaks(knots, lo, hi, out);
+        turn_breaks(knots, r, out)
+    } else {
+        breaks_of(knots, r, out)
     }
-    breaks_of(knots, lo, hi, out)
 }

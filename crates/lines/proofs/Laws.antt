@@ -1,42 +1,44 @@
 -- Laws of the chain of tests: its first half stops it or is passed over. Assumes nothing.
-use mathlib.Core.Path.{◌≡◌, refl, sym, ap, ◌∙◌}
-use mathlib.Core.Bool.{Bool, true, false, cond}
+use mathlib.Core.Path.{◌≡◌, refl, sym, ap}
+use mathlib.Core.Bool.{Bool, true, false, cond, true≢false}
 use mathlib.Core.List.{List}
-use Prim.Native.Nat.{ℕ, suc}
-use native.Mathlib.Omega.{arith}
+use Prim.Native.Nat.{ℕ}
 use lib.Ieee.{Float}
-use Rattle.lines.specs.declared.Admission.{Admission}
-use Rattle.lines.specs.declared.Admission.TheVariants.{Admitted, InvalidDegree, KnotCount, KnotOutOfRange, KnotsNotIncreasing, EndMultiplicitiesDiffer, MultiplicityTooLarge, ZeroMultiplicity}
-use Rattle.lines.specs.Admit.{admission_number, degree_out, knot_count_out, knot_out, not_increasing, ends_differ, too_large, zero_mult, validate_knots, validate_mults, validate_direction}
+use Rattle.std.specs.Prelude.{Result, Ok, Err, is_ok}
+use Rattle.lines.specs.declared.LineError.{LineError}
+use Rattle.lines.specs.declared.LineError.TheVariants.{InvalidDegree, KnotCount, KnotOutOfRange, KnotsNotIncreasing, EndMultiplicitiesDiffer, MultiplicityTooLarge, ZeroMultiplicity}
+use Rattle.lines.specs.Admit.{degree_out, knot_count_out, knot_out, not_increasing, ends_differ, too_large, zero_mult, validate_knots, validate_mults, validate_direction}
 
--- a test on the way to Admitted was not met
-pub pass : (b : Bool) (x y : Admission) → (x ≡ Admitted → ⊥) → cond b x y ≡ Admitted → (b ≡ false) × (y ≡ Admitted)
-pass true x y h e = absurd (h e)
-pass false x y h e = (refl, e)
+abbrev Outcome : Type 0
+Outcome = Result Unit LineError
 
--- no case with a number is Admitted
-pub refusal : (x : Admission) (n : ℕ) → admission_number x ≡ suc n → x ≡ Admitted → ⊥
-refusal x n h e = let z : 0 ≡ suc n = sym (ap admission_number e) ∙ h in omega arith
+refused : (e : LineError) → ◌≡◌ {A = Outcome} (Err e) (Ok tt) → ⊥
+refused e h = true≢false (sym (ap is_ok h))
 
--- ---- tests one after the other, each with its refusal: none is met and what follows is answered, or the answer is the same whatever follows
-abbrev pub Chain : (Admission → Admission) → Type 0
-Chain f = ((next : Admission) → f Admitted ≡ Admitted → f next ≡ next) × ((next : Admission) → (f Admitted ≡ Admitted → ⊥) → f next ≡ f Admitted)
+-- a test on the way to an admitted line was not met
+pub pass : (b : Bool) (e : LineError) (y : Outcome) → cond b (Err e) y ≡ Ok tt → (b ≡ false) × (y ≡ Ok tt)
+pass true e y h = absurd (refused e h)
+pass false e y h = (refl, h)
+
+-- ---- tests one after the other, each with its refusal: none is met and what follows is answered, or the refusal is the same whatever follows
+abbrev pub Chain : (Outcome → Outcome) → Type 0
+Chain f = ((next : Outcome) → f (Ok tt) ≡ Ok tt → f next ≡ next) × ((next : Outcome) (e : LineError) → f (Ok tt) ≡ Err e → f next ≡ Err e)
 
 no_test : Chain (λ next. next)
-no_test = (λ next e. refl, λ next h. absurd (h refl))
+no_test = (λ next h. refl, λ next e h. absurd (refused e (sym h)))
 
-test : (b : Bool) (x : Admission) (f : Admission → Admission) → (x ≡ Admitted → ⊥) → Chain f → Chain (λ next. cond b x (f next))
-test true x f h c = (λ next e. absurd (h e), λ next k. refl)
-test false x f h c = c
+test : (b : Bool) (e : LineError) (f : Outcome → Outcome) → Chain f → Chain (λ next. cond b (Err e) (f next))
+test true e f c = (λ next h. absurd (refused e h), λ next k h. h)
+test false e f c = c
 
-module _ (degree : ℕ) (knots : List Float) (mults : List ℕ) (rest : Admission → Admission) (c : Chain rest) where
+module _ (degree : ℕ) (knots : List Float) (mults : List ℕ) (rest : Outcome → Outcome) (c : Chain rest) where
   knots_then : Chain (λ next. validate_knots degree knots mults (rest next))
   unfolding validate_knots
   knots_then =
-      test (degree_out degree) InvalidDegree _ (refusal InvalidDegree 3 refl)
-      (test (knot_count_out knots mults) KnotCount _ (refusal KnotCount 4 refl)
-      (test (knot_out knots) KnotOutOfRange _ (refusal KnotOutOfRange 5 refl)
-      (test (not_increasing knots) KnotsNotIncreasing _ (refusal KnotsNotIncreasing 6 refl) c)))
+      test (degree_out degree) InvalidDegree _
+      (test (knot_count_out knots mults) KnotCount _
+      (test (knot_out knots) KnotOutOfRange _
+      (test (not_increasing knots) KnotsNotIncreasing _ c)))
 
 pub knots_chain : (degree : ℕ) (knots : List Float) (mults : List ℕ) → Chain (validate_knots degree knots mults)
 knots_chain degree knots mults = knots_then degree knots mults (λ next. next) no_test
@@ -45,9 +47,9 @@ module _ (closed : Bool) (degree : ℕ) (knots : List Float) (mults : List ℕ) 
   mults_chain : Chain (validate_mults closed degree mults)
   unfolding validate_mults
   mults_chain =
-      test (ends_differ closed mults) EndMultiplicitiesDiffer _ (refusal EndMultiplicitiesDiffer 21 refl)
-      (test (too_large closed degree mults) MultiplicityTooLarge _ (refusal MultiplicityTooLarge 7 refl)
-      (test (zero_mult mults) ZeroMultiplicity _ (refusal ZeroMultiplicity 8 refl) no_test))
+      test (ends_differ closed mults) EndMultiplicitiesDiffer _
+      (test (too_large closed degree mults) MultiplicityTooLarge _
+      (test (zero_mult mults) ZeroMultiplicity _ no_test))
 
   pub direction_chain : Chain (validate_direction closed degree knots mults)
   direction_chain = knots_then degree knots mults (validate_mults closed degree mults) mults_chain

@@ -1,28 +1,31 @@
 -- Document 01's table, numbers 4 to 14, and document 02's 22 of a closed line: what is wrong with a line. Definitions only.
-use Rattle.std.specs.Prelude.{ℕ, ◌+◌, ◌-◌, ◌/◌, ◌%◌, Bool, cond, not, ◌&&◌, ◌||◌, List, get_or, length, take, drop, ltb, leb, eqb, Float}
+use Rattle.std.specs.Prelude.{ℕ, ◌+◌, ◌-◌, ◌/◌, ◌%◌, ◌≤◌, Bool, cond, not, ◌&&◌, ◌||◌, List, get_or, length, take, drop, ltb, leb, eqb, Float, Result, Ok, Err}
 use Rattle.std.specs.Float.{binary64}
 use Rattle.std.specs.Float.Ieee.{lt, neg, of_bits}
 use Rattle.lists.specs.Tests.{every, each_two, total}
 use Rattle.floats.specs.Floats.{within}
 use Rattle.lines.specs.Lines.{Line}
-use Rattle.lines.specs.declared.Admission.{Admission}
-use Rattle.lines.specs.declared.Admission.TheVariants.{Admitted, InvalidDegree, KnotCount, KnotOutOfRange, KnotsNotIncreasing, EndMultiplicitiesDiffer, MultiplicityTooLarge, ZeroMultiplicity, PoleCountMismatch, PoleCountOutOfRange, WeightCountMismatch, WeightOutOfRange, CoordinateOutOfRange}
+use Rattle.lines.specs.declared.LineError.{LineError}
+use Rattle.lines.specs.declared.LineError.TheVariants.{InvalidDegree, KnotCount, KnotOutOfRange, KnotsNotIncreasing, EndMultiplicitiesDiffer, MultiplicityTooLarge, ZeroMultiplicity, PoleCountMismatch, PoleCountOutOfRange, WeightCountMismatch, WeightOutOfRange, CoordinateOutOfRange}
 
--- the table's number for each case, and 0 for an admitted line
-abbrev pub admission_number : Admission → ℕ
-admission_number Admitted = 0
-admission_number InvalidDegree = 4
-admission_number KnotCount = 5
-admission_number KnotOutOfRange = 6
-admission_number KnotsNotIncreasing = 7
-admission_number EndMultiplicitiesDiffer = 22
-admission_number MultiplicityTooLarge = 8
-admission_number ZeroMultiplicity = 9
-admission_number PoleCountMismatch = 10
-admission_number PoleCountOutOfRange = 11
-admission_number WeightCountMismatch = 12
-admission_number WeightOutOfRange = 13
-admission_number CoordinateOutOfRange = 14
+-- the table's number for each case
+abbrev pub line_error_number : LineError → ℕ
+line_error_number InvalidDegree = 4
+line_error_number KnotCount = 5
+line_error_number KnotOutOfRange = 6
+line_error_number KnotsNotIncreasing = 7
+line_error_number EndMultiplicitiesDiffer = 22
+line_error_number MultiplicityTooLarge = 8
+line_error_number ZeroMultiplicity = 9
+line_error_number PoleCountMismatch = 10
+line_error_number PoleCountOutOfRange = 11
+line_error_number WeightCountMismatch = 12
+line_error_number WeightOutOfRange = 13
+line_error_number CoordinateOutOfRange = 14
+
+-- a degree of at most 25, and two multiplicities or more: what the tests after number 5 rest on
+abbrev pub HasMults : ℕ → List ℕ → Type 0
+HasMults degree mults = (degree ≤ 25) × (2 ≤ length mults)
 
 -- 2^20, 2^24, 2^10 and 2^−10
 abbrev pub two20 : Float
@@ -99,33 +102,33 @@ abbrev pub coord_out : List Float → Bool
 coord_out coords = not (every (within (neg two24) two24) coords)
 
 -- numbers 4 to 7 in the table's order; `next` where none of them is met
-unfoldable pub validate_knots : ℕ → List Float → List ℕ → Admission → Admission
+unfoldable pub validate_knots : ℕ → List Float → List ℕ → Result Unit LineError → Result Unit LineError
 validate_knots degree knots mults next =
-    cond (degree_out degree) InvalidDegree
-    (cond (knot_count_out knots mults) KnotCount
-    (cond (knot_out knots) KnotOutOfRange
-    (cond (not_increasing knots) KnotsNotIncreasing next)))
+    cond (degree_out degree) (Err InvalidDegree)
+    (cond (knot_count_out knots mults) (Err KnotCount)
+    (cond (knot_out knots) (Err KnotOutOfRange)
+    (cond (not_increasing knots) (Err KnotsNotIncreasing) next)))
 
 -- "22 when the end multiplicities differ, tested after 7", then 8 and 9; `next` where none of them is met
-unfoldable pub validate_mults : Bool → ℕ → List ℕ → Admission → Admission
+unfoldable pub validate_mults : Bool → ℕ → List ℕ → Result Unit LineError → Result Unit LineError
 validate_mults closed degree mults next =
-    cond (ends_differ closed mults) EndMultiplicitiesDiffer
-    (cond (too_large closed degree mults) MultiplicityTooLarge
-    (cond (zero_mult mults) ZeroMultiplicity next))
+    cond (ends_differ closed mults) (Err EndMultiplicitiesDiffer)
+    (cond (too_large closed degree mults) (Err MultiplicityTooLarge)
+    (cond (zero_mult mults) (Err ZeroMultiplicity) next))
 
 -- both, one after the other (`validate_direction`; 6 and 9 added)
-abbrev pub validate_direction : Bool → ℕ → List Float → List ℕ → Admission → Admission
+abbrev pub validate_direction : Bool → ℕ → List Float → List ℕ → Result Unit LineError → Result Unit LineError
 validate_direction closed degree knots mults next = validate_knots degree knots mults (validate_mults closed degree mults next)
 
 -- numbers 10 to 14 in the table's order (the pole count of `validate_direction`, the weights of `BSplineCurve3D`'s constructors, the added limits)
-unfoldable pub validate_poles : Bool → ℕ → List ℕ → List Float → List Float → Admission
+unfoldable pub validate_poles : Bool → ℕ → List ℕ → List Float → List Float → Result Unit LineError
 validate_poles closed degree mults coords weights =
-    cond (pole_mismatch closed degree mults coords) PoleCountMismatch
-    (cond (pole_count_out degree coords) PoleCountOutOfRange
-    (cond (weight_mismatch coords weights) WeightCountMismatch
-    (cond (weight_out weights) WeightOutOfRange
-    (cond (coord_out coords) CoordinateOutOfRange Admitted))))
+    cond (pole_mismatch closed degree mults coords) (Err PoleCountMismatch)
+    (cond (pole_count_out degree coords) (Err PoleCountOutOfRange)
+    (cond (weight_mismatch coords weights) (Err WeightCountMismatch)
+    (cond (weight_out weights) (Err WeightOutOfRange)
+    (cond (coord_out coords) (Err CoordinateOutOfRange) (Ok tt)))))
 
 -- 4 to 14 and 22: `admit`
-abbrev pub admit_of : Line → Admission
+abbrev pub admit_of : Line → Result Unit LineError
 admit_of l = validate_direction l.closed l.degree l.knots l.mults (validate_poles l.closed l.degree l.mults l.coords l.weights)

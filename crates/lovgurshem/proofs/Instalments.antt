@@ -2,35 +2,17 @@
 use mathlib.Core.Path.{◌≡◌, refl, sym, ap, ◌∙◌}
 use mathlib.Core.Bool.{Bool, true, false, ◌&&◌, cond}
 use mathlib.Core.List.{List, [], ◌∷◌}
-use Prim.Native.Nat.{ℕ, suc, ◌+◌, ◌≤◌, ◌<◌}
+use Prim.Native.Nat.{ℕ, suc, ◌+◌, ◌≤◌}
 use native.Mathlib.Omega.{arith}
-use borrow.Author.Tests.{eq-eqb, ne_eqb, le-leb, lt-leb, lt-ltb, ltb-true, ltb-false}
+use borrow.Author.Tests.{eq-eqb, ne_eqb, le-leb, lt-leb, ltb-true, ltb-false}
 use lib.Dec.{ltb, leb, eqb}
-use lib.ListN.{length, get_or, set}
+use lib.ListN.{length, get_or}
 use Rattle.lists.specs.Parts.{patch}
 use Rattle.sheet.specs.Answers.{longest}
 use Rattle.charts.specs.declared.Instalment.{Instalment}
 use Rattle.charts.specs.Answers.{Part, last, part_of, Left, Given}
 use Rattle.lovgurshem.specs.Sheets.{flags_word, next_part, NextCall, next_call, gave, call_next}
 use Rattle.lovgurshem.proofs.Few.{few_taken}
-
--- ---- the cursor's words
-pub two-set : (l : List ℕ) (a b : ℕ) → 2 ≤ length l → set (set l 0 a) 1 b ≡ patch l 0 (a ∷ b ∷ [])
-two-set [] a b h = absurd (omega arith)
-two-set (x ∷ []) a b h = absurd (omega arith)
-two-set (x ∷ y ∷ l) a b h = refl
-
-pub flags_last : (more good : Bool) → more ≡ false → 2 ≡ flags_word more good
-flags_last more good e = rw e refl
-
-pub flags_more : (more good b : Bool) → more ≡ true → good ≡ b → cond b 1 0 ≡ flags_word more good
-flags_more more good b e f = rw (e, f) refl
-
-pub done_none : {k : ℕ} (w : ℕ) → k ≡ 0 → false ≡ (ltb 0 k && ltb 1 w)
-done_none w e = rw e refl
-
-pub done_flags : {k : ℕ} (w : ℕ) → (k ≡ 0 → ⊥) → ltb 1 w ≡ (ltb 0 k && ltb 1 w)
-done_flags {k} w d = rw (lt-ltb 0 k (omega arith)) refl
 
 -- ---- what a call gives
 pub no_bytes : (l : List ℕ) → length l ≡ 0 → l ≡ []
@@ -56,10 +38,6 @@ module _ (s ws out : List ℕ) where
         (λ j. next_call (bytes j) (g j) (l.0.1 j))
         ∙ (λ j. next_call (length p.text) (patch ws 0 (a j ∷ (e ∙ (λ j. flags_word (l.1 j) (l.2 j))) j ∷ [])) (patch out 0 p.text))
         ∙ sym (ap given (ne_eqb (length p.text) 0 (λ z. d (bytes ∙ z))))
-
-  pub next_few : length ws < 2 → next_call 0 ws out ≡ call_next s ws out
-  unfolding call_next
-  next_few h = rw (lt-leb 2 (length ws) h) refl
 
   module _ (h : 2 ≤ length ws) where
     pub next_done : {b : Bool} → b ≡ (ltb 0 (get_or ws 0 0) && ltb 1 (get_or ws 1 0)) → b ≡ true → next_call 0 ws out ≡ call_next s ws out

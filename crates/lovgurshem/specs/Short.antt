@@ -1,17 +1,17 @@
 -- An opening with too few words: the statement. Definitions only.
-use Rattle.std.specs.Prelude.{◌≡◌, Bool, false, ◌&&◌, cond, List, ℕ, ◌<◌, length, Float}
+use Rattle.std.specs.Prelude.{◌≡◌, Bool, false, ◌&&◌, cond, List, ℕ, ◌<◌, length, Float, is_ok}
 use Rattle.lines.specs.Lines.{Question}
 use Rattle.lines.specs.Data.{one_datum}
 use Rattle.lines.specs.Admit.{admit_of}
 use Rattle.questions.specs.Questions.{ask_of}
 use Rattle.states.specs.States.{Memory}
-use Rattle.opening.specs.Opens.{FaultNumber, is_admitted, is_fine, opened_number, open_def}
+use Rattle.opening.specs.Opens.{FaultNumber, opened_number, open_def}
 use Rattle.lovgurshem.specs.Answers.{open_answer}
 use Rattle.lovgurshem.specs.Calls.{open_call, call_open}
 
 -- both lines, their data and the question pass 4 to 18, 22 and 23
 abbrev pub passes : Question → Bool
-passes q = is_admitted (admit_of q.line1) && (is_admitted (admit_of q.line2) && (one_datum q.line1.datum q.line2.datum && is_fine (ask_of q)))
+passes q = is_ok (admit_of q.line1) && (is_ok (admit_of q.line2) && (one_datum q.line1.datum q.line2.datum && is_ok (ask_of q)))
 
 -- 19 where they pass, and else the number, from 4 to 18, 22 or 23, that enough words would get; all slices are as they were
 abbrev pub ShortState : Type 0

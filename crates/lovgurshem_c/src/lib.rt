@@ -1,5 +1,6 @@
 // The library for programs that are not written in Rattle: each function is the one of the same name of `lovgurshem`, exported to C.
-// include/lovgurshem.h says what each promises. In C a slice is two arguments, a pointer and a count.
+// include/lovgurshem.h says what each promises. In C a slice is two arguments, a pointer and a count; the parameters stay side by side,
+// since that is the C interface.
 #![tactic(auto)]
 
 ghost use Rattle.std.specs.Prelude.{◌≡◌, true, [], ◌⊎◌, ◌<◌, length};
@@ -62,7 +63,7 @@ pub extern "C" fn lovgurshem_examine(
 ) -> u32
     ensures { let l1 = line_of (is_closed closed1) degree1 knots1.now mults1.now coords1.now weights1.now in
         let l2 = line_of (is_closed closed2) degree2 knots2.now mults2.now coords2.now weights2.now in
-        let q = question_of (record { datum1 = datum1; datum2 = datum2; lo1 = lo1; hi1 = hi1; lo2 = lo2; hi2 = hi2; gap = gap; splits = splits }) l1 l2 in
+        let q = question_of (record { datum1 = datum1; datum2 = datum2; range1 = record { lo = lo1; hi = hi1 }; range2 = record { lo = lo2; hi = hi2 }; gap = gap; splits = splits }) l1 l2 in
         ◌≡◌ {A = ExamineCall}
         (examine_call result pairs.new pieces1.new pieces2.new)
         (call_examine q pieces1.old pieces2.old pairs.old) }
@@ -108,7 +109,7 @@ pub extern "C" fn lovgurshem_open(
 ) -> u32
     ensures fact { let l1 = line_of (is_closed closed1) degree1 knots1.now mults1.now coords1.now weights1.now in
         let l2 = line_of (is_closed closed2) degree2 knots2.now mults2.now coords2.now weights2.now in
-        let q = question_of (record { datum1 = datum1; datum2 = datum2; lo1 = lo1; hi1 = hi1; lo2 = lo2; hi2 = hi2; gap = gap; splits = splits }) l1 l2 in
+        let q = question_of (record { datum1 = datum1; datum2 = datum2; range1 = record { lo = lo1; hi = hi1 }; range2 = record { lo = lo2; hi = hi2 }; gap = gap; splits = splits }) l1 l2 in
         ◌≡◌ {A = OpenCall}
         (open_call result state.new pieces1.new pieces2.new
         (memory nets1.new nets2.new ranges.new depths.new raw.now))

@@ -1,10 +1,10 @@
 -- The search as a machine over parts of two lines. A part is one line's range and net; what a range, a net and a station are is left open,
 -- so that the float search and a whole-number search are two shapes of one machine. Definitions only.
-use Rattle.std.specs.Prelude.{List, [], ◌∷◌, ◌++◌, reverse, Bool, true, false, ◌||◌, cond, ℕ, zero, suc, ◌+◌, ◌≤◌, leb, length}
+use Rattle.std.specs.Prelude.{List, [], ◌∷◌, ◌++◌, reverse, Option, Some, None, Bool, true, false, ◌||◌, cond, ℕ, zero, suc, ◌+◌, ◌≤◌, leb, length}
 use Rattle.verdicts.specs.declared.Test.{Test}
 use Rattle.verdicts.specs.declared.Test.TheVariants.{Box, Plane, Line}
-use Rattle.verdicts.specs.declared.Choice.{Choice}
-use Rattle.verdicts.specs.declared.Choice.TheVariants.{First, Second, Neither}
+use Rattle.verdicts.specs.declared.Side.{Side}
+use Rattle.verdicts.specs.declared.Side.TheVariants.{First, Second}
 use Rattle.verdicts.specs.declared.Verdict.{Verdict}
 use Rattle.verdicts.specs.declared.Verdict.TheVariants.{Settled, Split, Unseparated}
 
@@ -20,19 +20,17 @@ pub record Shape : Type 1 where
   -- the most halvings of one line between its piece and a node
   pub limit : ℕ
 
--- "If the line chosen by box size is at 32, the other is halved; with both at 32 the node is given up": which line is halved, by the boxes' choice (`second`: the second line) and by whether the first and the second line are at the limit
-abbrev pub choose : Bool → Bool → Bool → Choice
-choose second end1 end2 = cond end1 (cond end2 Neither Second) (cond end2 First (cond second Second First))
+-- "If the line chosen by box size is at 32, the other is halved; with both at 32 the node is given up": which line is halved, if one is, by the boxes' choice (`second`: the second line) and by whether the first and the second line are at the limit
+abbrev pub choose : Bool → Bool → Bool → Option Side
+choose second end1 end2 = cond end1 (cond end2 None (Some Second)) (cond end2 (Some First) (cond second (Some Second) (Some First)))
 
-abbrev pub is_second : Choice → Bool
+abbrev pub is_first : Side → Bool
+is_first First = true
+is_first Second = false
+
+abbrev pub is_second : Side → Bool
 is_second First = false
 is_second Second = true
-is_second Neither = false
-
-abbrev pub is_neither : Choice → Bool
-is_neither First = false
-is_neither Second = false
-is_neither Neither = true
 
 -- A place on one line: one of its pieces, and the halves taken of it, the last first (true: the upper half).
 pub record Spot (S : Shape) : Type 0 where
@@ -131,12 +129,12 @@ module _ (S : Shape) where
   abbrev pub deeper : Bool → Spot S → Spot S
   deeper u x = record { piece = x.piece; halves = u ∷ x.halves }
 
-  -- the lower or the upper half of a node: of its second line or of its first
-  abbrev pub child : Bool → Bool → Node S → Node S
-  child true u n = record { a = n.a; b = deeper u n.b }
-  child false u n = record { a = deeper u n.a; b = n.b }
+  -- the lower or the upper half of a node along one of its lines
+  abbrev pub child : Side → Bool → Node S → Node S
+  child Second u n = record { a = n.a; b = deeper u n.b }
+  child First u n = record { a = deeper u n.a; b = n.b }
 
-  abbrev pub choice_of : Node S → Choice
+  abbrev pub choice_of : Node S → Option Side
   choice_of n = choose (S.second (part_of n.a) (part_of n.b)) (end1 n) (end2 n)
 
   abbrev pub none : List (Node S) → Bool
@@ -173,12 +171,12 @@ module _ (S : Shape) where
         own = not_settled;
       }
 
-  -- a split along the second line (true) or the first, with so much allowance: at none the node stays, and the search ends; else its halves are put in its place, the lower on top
-  abbrev pub split_along : Bool → ℕ → Node S → List (Node S) → Search S → Search S
-  split_along second zero n r m = stop_with m.stack m
-  split_along second (suc u) n r m =
+  -- a split along a line, with so much allowance: at none the node stays, and the search ends; else its halves are put in its place, the lower on top
+  abbrev pub split_along : Side → ℕ → Node S → List (Node S) → Search S → Search S
+  split_along line zero n r m = stop_with m.stack m
+  split_along line (suc u) n r m =
       record {
-        stack = child second false n ∷ child second true n ∷ r;
+        stack = child line false n ∷ child line true n ∷ r;
         settled = m.settled;
         given = m.given;
         visits = suc m.visits;
@@ -189,10 +187,9 @@ module _ (S : Shape) where
       }
 
   -- "with both at 32 the node is given up and nothing is spent"
-  abbrev pub divide : Choice → ℕ → Node S → List (Node S) → Search S → Search S
-  divide First u n r m = split_along false u n r m
-  divide Second u n r m = split_along true u n r m
-  divide Neither u n r m = give_up n r m
+  abbrev pub divide : Option Side → ℕ → Node S → List (Node S) → Search S → Search S
+  divide (Some line) u n r m = split_along line u n r m
+  divide None u n r m = give_up n r m
 
   -- what a verdict for the top node does; nothing where no node waits
   abbrev pub on_top : Verdict → List (Node S) → Search S → Search S

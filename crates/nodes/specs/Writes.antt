@@ -1,9 +1,11 @@
 -- What the functions below a step write, slice by slice, and the room that they have. Cited by inner functions only.
-use Rattle.std.specs.Prelude.{◌≡◌, List, [], ◌∷◌, ◌++◌, Bool, true, false, cond, ℕ, suc, ◌+◌, ◌*◌, ◌≤◌, ◌<◌, get_or, Float}
+use Rattle.std.specs.Prelude.{◌≡◌, List, [], ◌∷◌, ◌++◌, Bool, cond, ℕ, suc, ◌+◌, ◌*◌, ◌≤◌, ◌<◌, get_or, Float}
 use Rattle.std.specs.Float.{nan}
 use Rattle.lists.specs.Parts.{block, patch}
 use Rattle.floats.specs.Floats.{middle}
 use Rattle.nets.specs.Slots.{split_slot, copy_slot}
+use Rattle.verdicts.specs.declared.Side.{Side}
+use Rattle.verdicts.specs.declared.Side.TheVariants.{First, Second}
 use Rattle.states.specs.declared.State.{State}
 use Rattle.states.specs.declared.Depths.{Depths}
 use Rattle.states.specs.States.{Sizes, pair_of, deepened}
@@ -12,21 +14,21 @@ use Rattle.states.specs.States.{Sizes, pair_of, deepened}
 abbrev pub slots_after : Bool → ℕ → ℕ → List Float → List Float
 slots_after half w k s = cond half (split_slot w k s) (copy_slot w k s)
 
--- a node's four range ends, those of the second line or of the first halved: the upper half, and the lower
-abbrev pub ranges_halved : Bool → List Float → List Float
-ranges_halved true l =
+-- a node's four range ends, those of one line halved: the upper half, and the lower
+abbrev pub ranges_halved : Side → List Float → List Float
+ranges_halved Second l =
     (get_or l 0 nan ∷ get_or l 1 nan ∷ middle (get_or l 2 nan) (get_or l 3 nan) ∷ get_or l 3 nan ∷ []) ++
     (get_or l 0 nan ∷ get_or l 1 nan ∷ get_or l 2 nan ∷ middle (get_or l 2 nan) (get_or l 3 nan) ∷ [])
-ranges_halved false l =
+ranges_halved First l =
     (middle (get_or l 0 nan) (get_or l 1 nan) ∷ get_or l 1 nan ∷ get_or l 2 nan ∷ get_or l 3 nan ∷ []) ++
     (get_or l 0 nan ∷ middle (get_or l 0 nan) (get_or l 1 nan) ∷ get_or l 2 nan ∷ get_or l 3 nan ∷ [])
 
-abbrev pub ranges_after : Bool → ℕ → List Float → List Float
-ranges_after second k ranges = patch ranges (k * 4) (ranges_halved second (block 4 k ranges))
+abbrev pub ranges_after : Side → ℕ → List Float → List Float
+ranges_after line k ranges = patch ranges (k * 4) (ranges_halved line (block 4 k ranges))
 
 -- both halves are one deeper on the line that is halved
-abbrev pub depths_after : Bool → Depths → ℕ → List ℕ → List ℕ
-depths_after second d k depths = patch depths (k * 2) (pair_of (deepened second d) ++ pair_of (deepened second d))
+abbrev pub depths_after : Side → Depths → ℕ → List ℕ → List ℕ
+depths_after line d k depths = patch depths (k * 2) (pair_of (deepened line d) ++ pair_of (deepened line d))
 
 -- below a sum of 64 the next slot is there too
 pub record Above (x : State) (k : ℕ) (s : Sizes) : Type 0 where

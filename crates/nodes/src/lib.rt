@@ -1,10 +1,10 @@
 // What a step does: to the state, and to the slots of the node on top.
 #![tactic(auto)]
 
-ghost use Rattle.std.specs.Prelude.{◌≡◌, not, ◌+◌, ◌-◌, ◌*◌, ◌≤◌, ◌<◌, length};
+ghost use Rattle.std.specs.Prelude.{◌≡◌, ◌+◌, ◌-◌, ◌*◌, ◌≤◌, ◌<◌, length};
 ghost use Rattle.lists.specs.Parts.{block, patch};
 ghost use Rattle.boxes.specs.Boxes.{second_halved};
-ghost use Rattle.machine.specs.Machine.{choose, is_second, is_neither};
+ghost use Rattle.machine.specs.Machine.{choose, is_first, is_second};
 ghost use Rattle.states.specs.States.{deepened, at_end1, at_end2};
 ghost use Rattle.regions.specs.Regions.{flat};
 ghost use Rattle.nodes.specs.Geometry.{region_with};
@@ -15,10 +15,10 @@ ghost use Rattle.nodes.specs.Writes.{slots_after, ranges_after, depths_after, Ab
 use boxes::Aabb;
 use regions::Region;
 use states::{Depths, State, Tally};
-use verdicts::{Choice, Test};
+use verdicts::{Side, Test};
 
 // What a step does with the node on top.
-#[derive(Clone, Copy)]
+#[derive(Clone, Copy, Debug, PartialEq, Eq)]
 pub enum Move {
     Settled(Test),
     GivenUp,
@@ -131,106 +131,90 @@ pub fn region_of(a: Aabb, b: Aabb, ranges: &[f64], k: usize) -> Region
     }
 }
 
-// Slots k and k + 1 of a line: the halves of the net in slot k, or that net twice.
-fn split_net(s: &mut [f64], k: usize, w: usize, half: bool)
-    requires { (k + 2) * (4 * w) ≤ length s.old }
-    ensures { s.new ≡ slots_after half w k s.old }
+// Slots k and k + 1 of both lines: the halves of the net in slot k, or that net twice on the line that isn't halved.
+fn split_nets(nets1: &mut [f64], nets2: &mut [f64], k: usize, w1: usize, w2: usize, line: Side)
+    requires { ((k + 2) * (4 * w1) ≤ length nets1.old) × ((k + 2) * (4 * w2) ≤ length nets2.old) }
+    ensures { (nets1.new ≡ slots_after (is_first line) w1 k nets1.old) × (nets2.new ≡ slots_after (is_second line) w2 k nets2.old) }
 {
-    if half {
-        nets::halve_slot(s, k, w);
-        return;
+    match line {
+        Side::First => {
+            nets::halve_slot(nets1, k, w1);
+            nets::copy_slot(nets2, k, w2);
+        }
+        Side::Second => {
+            nets::copy_slot(nets1, k, w1);
+            nets::halve_slot(nets2, k, w2);
+        }
     }
-    nets::copy_slot(s, k, w);
 }
 
 // Node k's ranges in halves along one line: the upper in slot k, the lower in slot k + 1.
-fn split_ranges(ranges: &mut [f64], k: usize, second: bool)
+fn split_ranges(ranges: &mut [f64], k: usize, line: Side)
     requires { (k + 2) * 4 ≤ length ranges.old }
-    ensures { ranges.new ≡ ranges_after second k ranges.old }
+    ensures { ranges.new ≡ ranges_after line k ranges.old }
 {
     let at = k * 4;
     let a0 = ranges[at];
     let a1 = ranges[at + 1];
     let b0 = ranges[at + 2];
     let b1 = ranges[at + 3];
-    if second {
-        let mid = floats::mean(b0, b1);
-        lists::put(ranges, at, [a0, a1, mid, b1]);
-        lists::put(ranges, at + 4, [a0, a1, b0, mid]);
-        return;
+    match line {
+        Side::First => {
+            let mid = floats::mean(a0, a1);
+            lists::put(ranges, at, [mid, a1, b0, b1]);
+            lists::put(ranges, at + 4, [a0, mid, b0, b1]);
+        }
+        Side::Second => {
+            let mid = floats::mean(b0, b1);
+            lists::put(ranges, at, [a0, a1, mid, b1]);
+            lists::put(ranges, at + 4, [a0, a1, b0, mid]);
+        }
     }
-    let mid = floats::mean(a0, a1);
-    lists::put(ranges, at, [mid, a1, b0, b1]);
-    lists::put(ranges, at + 4, [a0, mid, b0, b1]);
 }
 
 // Which line is halved: the one with the larger box, the second where they are equal; the other where that line is at the limit; neither where both are.
-pub fn choose(a: Aabb, b: Aabb, depth: Depths) -> Choice
+pub fn choose(a: Aabb, b: Aabb, depth: Depths) -> Option<Side>
     ensures { result ≡ choose (second_halved a b) (at_end1 depth) (at_end2 depth) }
 {
     if depth.first >= 32 {
         if depth.second >= 32 {
-            return Choice::Neither;
+            return None;
         }
-        return Choice::Second;
+        return Some(Side::Second);
     }
     if depth.second >= 32 {
-        return Choice::First;
+        return Some(Side::First);
     }
     if boxes::second_halved(a, b) {
-        return Choice::Second;
+        return Some(Side::Second);
     }
-    Choice::First
-}
-
-pub fn is_second(c: Choice) -> bool
-    ensures { result ≡ is_second c }
-{
-    match c {
-        Choice::First => false,
-        Choice::Second => true,
-        Choice::Neither => false,
-    }
-}
-
-pub fn is_neither(c: Choice) -> bool
-    ensures { result ≡ is_neither c }
-{
-    match c {
-        Choice::First => false,
-        Choice::Second => false,
-        Choice::Neither => true,
-    }
+    Some(Side::First)
 }
 
 // One deeper on one line.
-fn deeper(depth: Depths, second: bool) -> Depths
+fn deeper(depth: Depths, line: Side) -> Depths
     requires { (depth.first ≤ 32) × (depth.second ≤ 32) }
-    ensures { result ≡ deepened second depth }
+    ensures { result ≡ deepened line depth }
 {
-    if second {
-        return Depths {
+    match line {
+        Side::First => Depths {
+            first: depth.first + 1,
+            second: depth.second,
+        },
+        Side::Second => Depths {
             first: depth.first,
             second: depth.second + 1,
-        };
-    }
-    Depths {
-        first: depth.first + 1,
-        second: depth.second,
+        },
     }
 }
 
 // Both halves are one deeper on the line that is halved.
-fn deepen(depths: &mut [u8], k: usize, depth: Depths, second: bool)
+fn deepen(depths: &mut [u8], k: usize, depth: Depths, line: Side)
     requires { ((k + 2) * 2 ≤ length depths.old) × (depth.first ≤ 32) × (depth.second ≤ 32) }
-    ensures { depths.new ≡ depths_after second depth k depths.old }
+    ensures { depths.new ≡ depths_after line depth k depths.old }
 {
-    let d = deeper(depth, second);
-    let at = k * 2;
-    depths[at] = d.first;
-    depths[at + 1] = d.second;
-    depths[at + 2] = d.first;
-    depths[at + 3] = d.second;
+    let d = deeper(depth, line);
+    lists::put(depths, k * 2, [d.first, d.second, d.first, d.second]);
 }
 
 // Node k is given up: its region goes to the raw list.
@@ -245,12 +229,12 @@ pub fn give_up(st: State, k: u32, a: Aabb, b: Aabb, ranges: &[f64], raw: &mut [f
     );
 }
 
-// Node k is halved along its second line, or along its first.
+// Node k is halved along one of its lines. The lent memory stays slices side by side: a struct of them needs a clause for each field's loan, and is no plainer.
 pub fn halve(
     st: State,
     k: u32,
     depth: Depths,
-    second: bool,
+    line: Side,
     nets1: &mut [f64],
     nets2: &mut [f64],
     ranges: &mut [f64],
@@ -259,14 +243,20 @@ pub fn halve(
     requires above { Above st k
         (record { nets1 = length nets1.old; nets2 = length nets2.old; ranges = length ranges.old; depths = length depths.old; raw = 0 }) }
     requires first_bound { (depth.first ≤ 32) × (depth.second ≤ 32) }
-    ensures { (nets1.new ≡ slots_after (not second) st.width1 k nets1.old)
-        × (nets2.new ≡ slots_after second st.width2 k nets2.old)
-        × (ranges.new ≡ ranges_after second k ranges.old)
-        × (depths.new ≡ depths_after second depth k depths.old) }
+    ensures { (nets1.new ≡ slots_after (is_first line) st.width1 k nets1.old)
+        × (nets2.new ≡ slots_after (is_second line) st.width2 k nets2.old)
+        × (ranges.new ≡ ranges_after line k ranges.old)
+        × (depths.new ≡ depths_after line depth k depths.old) }
 {
     let at = k as usize;
-    split_net(nets1, at, st.width1 as usize, !second);
-    split_net(nets2, at, st.width2 as usize, second);
-    split_ranges(ranges, at, second);
-    deepen(depths, at, depth, second);
+    split_nets(
+        nets1,
+        nets2,
+        at,
+        st.width1 as usize,
+        st.width2 as usize,
+        line,
+    );
+    split_ranges(ranges, at, line);
+    deepen(depths, at, depth, line);
 }

@@ -1,41 +1,39 @@
 -- The opening's tests, one a return, and the room of what is pushed. Assumes nothing.
 use mathlib.Core.Path.{◌≡◌, refl, sym, ap, ◌∙◌, subst}
+use Rattle.std.specs.Prelude.{Result, Ok, Err, is_ok}
 use Rattle.curves.proofs.Few.{few_open, few_closed}
 use Rattle.points.specs.declared.Interval.{Interval}
 use Rattle.lines.proofs.Admitted.{counts}
-use mathlib.Core.Bool.{Bool, true, false, not, cond, false≢true}
+use mathlib.Core.Bool.{Bool, true, false, cond, false≢true}
 use mathlib.Core.List.{List, [], ◌∷◌}
 use Prim.Native.Nat.{ℕ, ◌+◌, ◌-◌, ◌*◌, ◌≤◌}
 use native.Mathlib.Nat.{le_trans, mul-le-mul, mul-le-mul_right}
 use native.Mathlib.Omega.{arith}
-use lib.Dec.{ltb, eqb, T}
-use borrow.Author.Tests.{ltb-false, ne_eqb, not-false}
+use lib.Dec.{T}
+use borrow.Author.Tests.{ltb-false, not-false}
 use lib.ListN.{length, take, length-reverse}
 use lib.Seq.{length-take-le}
 use lib.Ieee.{Float, le, lt}
 use Rattle.lists.specs.Parts.{patch}
-use Rattle.lines.specs.declared.Admission.{Admission}
-use Rattle.lines.specs.declared.Admission.TheVariants.{Admitted, InvalidDegree, KnotCount, KnotOutOfRange, KnotsNotIncreasing, EndMultiplicitiesDiffer, MultiplicityTooLarge, ZeroMultiplicity, PoleCountMismatch, PoleCountOutOfRange, WeightCountMismatch, WeightOutOfRange, CoordinateOutOfRange}
-use Rattle.questions.specs.declared.Asked.{Asked as AskAnswer}
-use Rattle.questions.specs.declared.Asked.TheVariants.{RangeOutOfBounds, GapOutOfRange, TooManySplits}
-use Rattle.floats.specs.Floats.{zero64, within}
-use Rattle.lines.specs.Admit.{two24, admit_of}
+use Rattle.verdicts.specs.declared.Side.TheVariants.{First, Second}
+use Rattle.questions.specs.declared.QuestionError.{QuestionError}
+use Rattle.questions.specs.declared.QuestionError.TheVariants.{RangeOutOfBounds, GapOutOfRange, TooManySplits}
+use Rattle.lines.specs.Admit.{admit_of}
 use Rattle.questions.specs.Questions.{range_fits, ask_within, ask_of}
 use Rattle.knots.specs.Knots.{bounds_of, breaks_of, bounds_in, unrolled_of}
 use Rattle.curves.specs.Curves.{piece_count, count_in}
 use Rattle.lines.specs.Lines.{Question, Line}
 use Rattle.lines.specs.Data.{one_datum}
-use Rattle.pairs.specs.BoxLists.{boxes_from, HoldsBoxes}
 use Rattle.pairs.specs.Nodes.{HasPieces}
 use Rattle.pairs.specs.Pairs.{Pieces, pieces, pairs_from, nets1_of, nets2_of, ranges_of, depths_of}
 use Rattle.states.specs.declared.State.{State}
 use Rattle.terms.specs.declared.Terms.{Terms}
 use Rattle.states.specs.States.{Memory, memory, Sizes, sizes, needed, enough, first_state}
 use Rattle.states.proofs.Tests.{room_all}
-use Rattle.opening.specs.declared.Opened.{Opened}
-use Rattle.opening.specs.declared.Opened.TheVariants.{Open, BadDatum, NoRoom}
+use Rattle.opening.specs.declared.OpenError.{OpenError}
+use Rattle.opening.specs.declared.OpenError.TheVariants.{BadDatum, NoRoom}
 use Rattle.opening.specs.Asked.{pushed_pairs, pairs_of, start, state_of}
-use Rattle.opening.specs.Opens.{terms_of, search_for, is_admitted, is_fine, pieces_in, pushing, push_def, push_pairs, opening, open_pieces, open_def}
+use Rattle.opening.specs.Opens.{terms_of, search_for, pieces_in, pushing, push_def, push_pairs, opening, open_pieces, open_def}
 use Rattle.opening.proofs.Pushed.{one, other, numbered, pairs_are, memory_is}
 
 -- so many pairs as pieces allow
@@ -58,16 +56,16 @@ module _ (S : ℕ) (gap : Float) (t : Terms) (p q : Pieces) (n1 n2 : ℕ) (u : M
   state_is : x ≡ first_state (length (pairs_from gap p q n2 n1 0)) S p.w q.w gap t
   state_is = ex ∙ ap (λ (k : ℕ). first_state k S p.w q.w gap t) en
 
-  pub push_short : enough (needed x) (sizes u) ≡ false → pushing NoRoom u ≡ push_pairs S gap t p q n1 n2 u
+  pub push_short : enough (needed x) (sizes u) ≡ false → pushing (Err NoRoom) u ≡ push_pairs S gap t p q n1 n2 u
   push_short e = rw (subst (λ (y : State). enough (needed y) (sizes u) ≡ false) state_is e) refl
 
   pub push_done : enough (needed x) (sizes u) ≡ true → (a b r : List Float) (d : List ℕ)
       → a ≡ patch u.nets1 0 (nets1_of p (pairs_from gap p q n2 n1 0)) → b ≡ patch u.nets2 0 (nets2_of q (pairs_from gap p q n2 n1 0))
       → r ≡ patch u.ranges 0 (ranges_of p q (pairs_from gap p q n2 n1 0)) → d ≡ patch u.depths 0 (depths_of (pairs_from gap p q n2 n1 0))
-      → pushing (Open x) (memory a b r d u.raw) ≡ push_pairs S gap t p q n1 n2 u
+      → pushing (Ok x) (memory a b r d u.raw) ≡ push_pairs S gap t p q n1 n2 u
   push_done e a b r d ea eb er ed =
       rw (subst (λ (y : State). enough (needed y) (sizes u) ≡ true) state_is e)
-      (λ i. pushing (Open (state_is i)) (memory (ea i) (eb i) (er i) (ed i) u.raw))
+      (λ i. pushing (Ok (state_is i)) (memory (ea i) (eb i) (er i) (ed i) u.raw))
 
 -- ---- the state of the fresh search, by P
 pub start_state : (q : Question) → first_state (pairs_of (search_for q)) q.splits (q.line1.degree + 1) (q.line2.degree + 1) q.gap (terms_of q) ≡ state_of (search_for q) (start (search_for q))
@@ -105,10 +103,10 @@ module _ (q : Question) (p1 p2 : List Float) (u : Memory) where
       (piece_count q.line2 q.lo2 q.hi2) u ≡ push_def (search_for q) u
   push_is =
       let m = memory_is q p1 p2 u _ _ _ _ refl refl refl refl in
-      λ i. cond (enough (needed (fresh_state i)) (sizes u)) (pushing (Open (fresh_state i)) (m i)) (pushing NoRoom u)
+      λ i. cond (enough (needed (fresh_state i)) (sizes u)) (pushing (Ok (fresh_state i)) (m i)) (pushing (Err NoRoom) u)
 
   -- the pieces written, then the pairs pushed
-  pub pieces-opened : (r : Opened) (a b : List Float) (m : Memory) → a ≡ pieces_in q.line1 q.lo1 q.hi1 p1 → b ≡ pieces_in q.line2 q.lo2 q.hi2 p2
+  pub pieces-opened : (r : Result State OpenError) (a b : List Float) (m : Memory) → a ≡ pieces_in q.line1 q.lo1 q.hi1 p1 → b ≡ pieces_in q.line2 q.lo2 q.hi2 p2
       → pushing r m
       ≡ push_pairs q.splits q.gap (terms_of q) (pieces (q.line1.degree + 1) a (breaks_of q.line1 q.lo1 q.hi1))
       (pieces (q.line2.degree + 1) b (breaks_of q.line2 q.lo2 q.hi2))
@@ -122,8 +120,8 @@ module _ (q : Question) (p1 p2 : List Float) (u : Memory) where
       λ i. opening (f i).answer (ea i) (eb i) (f i).memory
 
   -- 23
-  pub bad_datum : is_admitted (admit_of q.line1) ≡ true → is_admitted (admit_of q.line2) ≡ true → one_datum q.line1.datum q.line2.datum ≡ false
-      → opening BadDatum p1 p2 u ≡ open_def q p1 p2 u
+  pub bad_datum : admit_of q.line1 ≡ Ok tt → admit_of q.line2 ≡ Ok tt → one_datum q.line1.datum q.line2.datum ≡ false
+      → opening (Err BadDatum) p1 p2 u ≡ open_def q p1 p2 u
   bad_datum e f n = rw (e, f, n) refl
 
 -- ---- P, counted in the slices that hold the pieces
@@ -145,23 +143,6 @@ module _ (q : Question) (p1 p2 a b : List Float) (n : ℕ) (ea : a ≡ pieces_in
   pub pairs_held : n ≡ pairs_of (search_for q) → n ≡ in_slices
   pairs_held e = e ∙ sym in_slices_lem
 
--- the boxes of n pieces, by equal numbers
-pub holds_as : {w v n m : ℕ} (P B : List Float) → w ≡ v → n ≡ m → HoldsBoxes v P m B → HoldsBoxes w P n B
-holds_as {w} {v} {n} {m} P B e f h = subst (λ (k : ℕ). HoldsBoxes k P n B) (sym e) (subst (λ (k : ℕ). HoldsBoxes v P k B) (sym f) h)
-
--- what `count_pairs` ensures, by equal widths and numbers
-abbrev Counted : Float → List Float → List Float → List Float → List Float → List Float → List Float → List Float → List Float → ℕ → ℕ → ℕ → ℕ → ℕ → Type 0
-Counted gap P1 t1 A1 B1 P2 t2 A2 B2 r w1 w2 n1 n2 =
-    ((r ≡ length (pairs_from gap (pieces w1 P1 t1) (pieces w2 P2 t2) n2 n1 0)) × (r ≤ n1 * n2))
-    × ((B1 ≡ patch A1 0 (boxes_from w1 P1 n1 0)) × (B2 ≡ patch A2 0 (boxes_from w2 P2 n2 0)) × HoldsBoxes w1 P1 n1 B1 × HoldsBoxes w2 P2 n2 B2)
-
-pub counted_as : (gap : Float) (P1 t1 A1 B1 P2 t2 A2 B2 : List Float) (r : ℕ) {w1 v1 w2 v2 n1 m1 n2 m2 : ℕ} → w1 ≡ v1 → w2 ≡ v2 → n1 ≡ m1 → n2 ≡ m2
-    → Counted gap P1 t1 A1 B1 P2 t2 A2 B2 r w1 w2 n1 n2 → Counted gap P1 t1 A1 B1 P2 t2 A2 B2 r v1 v2 m1 m2
-counted_as gap P1 t1 A1 B1 P2 t2 A2 B2 r {w1} {v1} {w2} {v2} {n1} {m1} {n2} {m2} e1 e2 f1 f2 h =
-    subst (λ (k : ℕ). Counted gap P1 t1 A1 B1 P2 t2 A2 B2 r k v2 m1 m2) e1
-    (subst (λ (k : ℕ). Counted gap P1 t1 A1 B1 P2 t2 A2 B2 r w1 k m1 m2) e2
-    (subst (λ (k : ℕ). Counted gap P1 t1 A1 B1 P2 t2 A2 B2 r w1 w2 k m2) f1 (subst (λ (k : ℕ). Counted gap P1 t1 A1 B1 P2 t2 A2 B2 r w1 w2 n1 k) f2 h)))
-
 -- ---- a line's breaks in a local array, of which m are used
 pub used_length : (m : ℕ) (out : List Float) → m ≤ length out → m ≡ length (take m out)
 used_length m out h = sym (length-take-le m out h)
@@ -172,41 +153,27 @@ has_pieces_lem m w d P out B e f h ew r =
     (rw (e, ew) r, let l : length (take m out) ≡ m = ap length f ∙ sym e in omega arith)
 
 -- ---- from the tests to their meaning
--- the number of an answer, as computed, is 0 or not
-pub is_zero : (n m : ℕ) → n ≡ m → n ≡ 0 → eqb m 0 ≡ true
-is_zero n m e z = rw (sym e ∙ z) refl
+pub passed : (b : Bool) (e : QuestionError) (c : Result Unit QuestionError) → cond b (Err e) c ≡ Ok tt → (b ≡ false) × (c ≡ Ok tt)
+passed true e c h = absurd (false≢true (ap is_ok h))
+passed false e c h = (refl, h)
 
-pub not_zero : (n m : ℕ) → n ≡ m → (n ≡ 0 → ⊥) → eqb m 0 ≡ false
-not_zero n m e h = ne_eqb m 0 (λ f. h (e ∙ f))
-
-pub is_admitted_lem : (a : Admission) → is_admitted a ≡ true → a ≡ Admitted
-is_admitted_lem Admitted e = refl
-is_admitted_lem InvalidDegree e = absurd (false≢true e)
-is_admitted_lem KnotCount e = absurd (false≢true e)
-is_admitted_lem KnotOutOfRange e = absurd (false≢true e)
-is_admitted_lem KnotsNotIncreasing e = absurd (false≢true e)
-is_admitted_lem EndMultiplicitiesDiffer e = absurd (false≢true e)
-is_admitted_lem MultiplicityTooLarge e = absurd (false≢true e)
-is_admitted_lem ZeroMultiplicity e = absurd (false≢true e)
-is_admitted_lem PoleCountMismatch e = absurd (false≢true e)
-is_admitted_lem PoleCountOutOfRange e = absurd (false≢true e)
-is_admitted_lem WeightCountMismatch e = absurd (false≢true e)
-is_admitted_lem WeightOutOfRange e = absurd (false≢true e)
-is_admitted_lem CoordinateOutOfRange e = absurd (false≢true e)
-
-passed : (b : Bool) (a c : AskAnswer) → is_fine a ≡ false → is_fine (cond b a c) ≡ true → (b ≡ false) × (is_fine c ≡ true)
-passed true a c h e = absurd (false≢true (sym h ∙ e))
-passed false a c h e = (refl, e)
-
--- a fine question has at most 256 splits a pair
-pub few_splits : (q : Question) → is_fine (ask_of q) ≡ true → q.splits ≤ 256
+-- a fine question has at most 256 splits a pair, and both ranges fit
+pub few_splits : (q : Question) → ask_of q ≡ Ok tt → q.splits ≤ 256
 unfolding ask_within
 few_splits q e =
-    let a = passed (not (range_fits q.line1.closed (bounds_of q.line1) q.lo1 q.hi1)) (RangeOutOfBounds 1) _ refl e in
-    let b = passed (not (range_fits q.line2.closed (bounds_of q.line2) q.lo2 q.hi2)) (RangeOutOfBounds 2) _ refl a.1 in
-    let c = passed (not (within zero64 two24 q.gap)) GapOutOfRange _ refl b.1 in
-    let d = passed (ltb 256 q.splits) TooManySplits _ refl c.1 in
+    let a = passed _ (RangeOutOfBounds First) _ e in
+    let b = passed _ (RangeOutOfBounds Second) _ a.1 in
+    let c = passed _ GapOutOfRange _ b.1 in
+    let d = passed _ TooManySplits _ c.1 in
     ltb-false 256 q.splits d.0
+
+pub ranges_fit : (q : Question) → ask_of q ≡ Ok tt
+    → (range_fits q.line1.closed (bounds_of q.line1) q.lo1 q.hi1 ≡ true) × (range_fits q.line2.closed (bounds_of q.line2) q.lo2 q.hi2 ≡ true)
+unfolding ask_within
+ranges_fit q e =
+    let a = passed _ (RangeOutOfBounds First) _ e in
+    let b = passed _ (RangeOutOfBounds Second) _ a.1 in
+    (not-false _ a.0, not-false _ b.0)
 
 -- and each line's range has at most 255 pieces
 starts : (bounds : Interval) (lo hi : Float) → range_fits true bounds lo hi ≡ true → T (le bounds.lo lo)
@@ -218,7 +185,7 @@ starts bounds lo hi e = go (lt lo hi) (le bounds.lo lo) _ e
     go true false x e = absurd (false≢true e)
     go false b x e = absurd (false≢true e)
 
-line_few : (l : Line) (lo hi : Float) → admit_of l ≡ Admitted → range_fits l.closed (bounds_of l) lo hi ≡ true → piece_count l lo hi ≤ 255
+line_few : (l : Line) (lo hi : Float) → admit_of l ≡ Ok tt → range_fits l.closed (bounds_of l) lo hi ≡ true → piece_count l lo hi ≤ 255
 unfolding bounds_in
 line_few l lo hi ok e = let C = counts l ok in go l.closed l.knots C.two_knots C.few_knots e
   where
@@ -227,10 +194,8 @@ line_few l lo hi ok e = let C = counts l ok in go l.closed l.knots C.two_knots C
     go true [] two few e = absurd (omega arith)
     go true (k ∷ ks) two few e = few_closed lo hi k ks few (starts (bounds_in true l.degree (k ∷ ks) l.mults) lo hi e)
 
-pub few_pieces : (q : Question) → admit_of q.line1 ≡ Admitted → admit_of q.line2 ≡ Admitted → is_fine (ask_of q) ≡ true
+pub few_pieces : (q : Question) → admit_of q.line1 ≡ Ok tt → admit_of q.line2 ≡ Ok tt → ask_of q ≡ Ok tt
     → (piece_count q.line1 q.lo1 q.hi1 ≤ 255) × (piece_count q.line2 q.lo2 q.hi2 ≤ 255)
-unfolding ask_within
 few_pieces q a1 a2 e =
-    let a = passed (not (range_fits q.line1.closed (bounds_of q.line1) q.lo1 q.hi1)) (RangeOutOfBounds 1) _ refl e in
-    let b = passed (not (range_fits q.line2.closed (bounds_of q.line2) q.lo2 q.hi2)) (RangeOutOfBounds 2) _ refl a.1 in
-    (line_few q.line1 q.lo1 q.hi1 a1 (not-false _ a.0), line_few q.line2 q.lo2 q.hi2 a2 (not-false _ b.0))
+    let fit = ranges_fit q e in
+    (line_few q.line1 q.lo1 q.hi1 a1 fit.0, line_few q.line2 q.lo2 q.hi2 a2 fit.1)

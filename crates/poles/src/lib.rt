@@ -20,11 +20,18 @@ impl<'a, 'b> Poles<'a, 'b> {
     }
 
     // Pole `i` as four numbers.
+    #[tactic(auto, unfolding(crate::specs::Poles::homogeneous_of))]
     pub fn homogeneous(self, i: usize) -> points::Point4D
         requires { (i ≤ 128) × (3 * i + 3 ≤ length self.coords.now) }
         ensures { result ≡ homogeneous_of self.entry.coords.now self.entry.weights.now i }
     {
-        homogeneous(self.coords, self.weights, i)
+        let w = weight(self.weights, i);
+        points::Point4D {
+            x: self.coords[3 * i] * w,
+            y: self.coords[3 * i + 1] * w,
+            z: self.coords[3 * i + 2] * w,
+            w,
+        }
     }
 
     // All poles, four numbers each, from the front of an array with room for 128.
@@ -34,44 +41,18 @@ impl<'a, 'b> Poles<'a, 'b> {
             × (take (4 * pole_count self.entry.coords.now) result
             ≡ homogeneous_poles self.entry.coords.now self.entry.weights.now (pole_count self.entry.coords.now) 0) }
     {
-        let n = self.len();
-        let mut out = pole_room();
-        let mut i = 0;
-        while i < n {
+        let mut out = [0.0; 512];
+        for i in 0..self.len() {
             points::put(&mut out, 4 * i, self.homogeneous(i));
-            i += 1;
         }
         out
     }
 }
 
-// Room for 128 poles of four numbers.
-fn pole_room() -> [f64; 512]
-    ensures { length result ≡ 512 }
-{
-    [0.0f64; 512]
-}
-
 // Weight `i`, 1 where there is none.
+#[tactic(auto, unfolding(crate::specs::Poles::weight_of))]
 fn weight(weights: &[f64], i: usize) -> f64
     ensures { result ≡ weight_of weights.now i }
 {
-    if i < weights.len() {
-        return weights[i];
-    }
-    1.0
-}
-
-// Pole `i` as four numbers.
-fn homogeneous(coords: &[f64], weights: &[f64], i: usize) -> points::Point4D
-    requires { (i ≤ 128) × (3 * i + 3 ≤ length coords.now) }
-    ensures { result ≡ homogeneous_of coords.now weights.now i }
-{
-    let w = weight(weights, i);
-    points::Point4D {
-        x: coords[3 * i] * w,
-        y: coords[3 * i + 1] * w,
-        z: coords[3 * i + 2] * w,
-        w: w,
-    }
+    *weights.get(i).unwrap_or(&1.0)
 }

@@ -167,10 +167,3 @@ regions_turn out₀ at list marks k n {out} {out'} {here} {here'} h room e f (g,
     let line : List Float → List ℕ = λ (l : List Float). region_line l (get_or marks k 0) in
     let w = moved out here (ap line (part_is (k * 10) 10 list)) g in
     (moved out₀ at (sym (lines_next k list marks)) (joined out₀ at (region_lines k list marks) (line (block 10 k list)) e w (omega arith)), omega arith)
-
-pub regions_done : (out₀ : List ℕ) (at : ℕ) (list : List Float) (marks : List ℕ) (k n : ℕ) {out : List ℕ} {here : ℕ} → n ≤ k → k ≤ n
-    → Wrote out₀ at (region_lines k list marks) out here → here ≤ at + region_length * k
-    → Wrote out₀ at (region_lines n list marks) out here × (here ≤ at + region_length * n)
-regions_done out₀ at list marks k n h h' e f =
-    let z : k ≡ n = omega arith in
-    (moved out₀ at (ap (λ (i : ℕ). region_lines i list marks) z) e, omega arith)

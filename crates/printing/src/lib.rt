@@ -83,10 +83,8 @@ fn put_floats(out: &mut [u8], at: usize, xs: &[f64]) -> usize
     ensures value { result ≡ at + 17 * length xs.now }
 {
     let mut here = at;
-    let mut i = 0usize;
-    while i < xs.len() {
-        here = texts::put_float(out, here, xs[i]);
-        i += 1;
+    for x in xs {
+        here = texts::put_float(out, here, *x);
     }
     here
 }
@@ -110,12 +108,10 @@ pub fn put_regions(out: &mut [u8], at: usize, list: &[f64], marks: &[u32], n: us
     ensures upper_bound { result ≤ at + region_length * n }
 {
     let mut here = at;
-    let mut k = 0usize;
-    while k < n {
+    for k in 0..n {
         let from = k * 10;
         let to = from + 10;
         here = put_region(out, here, &list[from..to], marks[k]);
-        k += 1;
     }
     here
 }

@@ -5,25 +5,16 @@ use Prim.Native.Nat.{ℕ, zero, suc, ◌+◌, ◌-◌, ◌*◌, ◌≤◌, ◌<�
 use native.Mathlib.Nat.{add-zero}
 use native.Mathlib.Numerals.{add-one}
 use native.Mathlib.Omega.{arith}
-use lib.ListN.{length, get_or, take, drop, set, replicate, length-replicate, length-append, length-drop, take-append-drop}
-use lib.Seq.{get_or-take, get_or-drop, length-take-le, take-add, drop-drop, drop_at, take_at, drop-set-lt, take-suc-set, set_split, ext_get_or}
+use lib.ListN.{length, get_or, take, drop, set, replicate, length-replicate, length-append, length-drop}
+use lib.Seq.{get_or-take, get_or-drop, length-take-le, take-add, drop-drop, drop_at, take_at, set_split, ext_get_or}
 use lib.Ieee.{Float, nan}
 use Rattle.lists.specs.Parts.{block, patch}
-use Rattle.floats.specs.Floats.{least, greatest}
 use Rattle.regions.specs.declared.Region.{Region}
-use Rattle.regions.specs.Regions.{union_of, flat, flats, region_at, regions_in}
+use Rattle.regions.specs.Regions.{flat, flats, region_at, regions_in}
 use Rattle.lists.proofs.Loops.{nothing_left}
-use Rattle.lists.proofs.Parts.{block_take}
+use Rattle.lists.proofs.Parts.{block_take, given_back}
 
 -- ---- ten floats
--- ten least and greatest are a union
-pub united : (r q : Region) {a0 a1 b0 b1 x0 y0 z0 x1 y1 z1 : Float}
-    → a0 ≡ least r.a0 q.a0 → a1 ≡ greatest r.a1 q.a1 → b0 ≡ least r.b0 q.b0 → b1 ≡ greatest r.b1 q.b1
-    → x0 ≡ least r.x0 q.x0 → y0 ≡ least r.y0 q.y0 → z0 ≡ least r.z0 q.z0
-    → x1 ≡ greatest r.x1 q.x1 → y1 ≡ greatest r.y1 q.y1 → z1 ≡ greatest r.z1 q.z1
-    → ◌≡◌ {A = Region} (record { a0 = a0; a1 = a1; b0 = b0; b1 = b1; x0 = x0; y0 = y0; z0 = z0; x1 = x1; y1 = y1; z1 = z1 }) (union_of r q)
-united r q a b c d e f g h j k = λ i. record { a0 = a i; a1 = b i; b0 = c i; b1 = d i; x0 = e i; y0 = f i; z0 = g i; x1 = h i; y1 = j i; z1 = k i }
-
 -- a region reads ten floats and no more
 pub region_start : (n : ℕ) (l : List Float) → 10 ≤ n → region_at (take n l) ≡ region_at l
 region_start n l h =
@@ -190,16 +181,8 @@ drop_more a b l l' h e =
     let k : b ≡ a + (b - a) = omega arith in
     rw (k, ← drop-drop (b - a) a l, ← drop-drop (b - a) a l', e) refl
 
-module _ {A : Type 0} (v : A) where
-  pub fill_on : (l : List A) (x to : ℕ) → x < to → to ≤ length l → patch (set l x v) (x + 1) (replicate (to - (x + 1)) v) ≡ patch l x (replicate (to - x) v)
-  fill_on l x to h f =
-      let k : to - x ≡ suc (to - (x + 1)) = omega arith in
-      let c = length-replicate (to - (x + 1)) v in
-      let t : take (x + 1) (set l x v) ≡ take x l ++ (v ∷ []) = rw add-one (take-suc-set l x v (omega arith)) in
-      let u : x + 1 + length (replicate (to - (x + 1)) v) ≡ x + suc (length (replicate (to - (x + 1)) v)) = omega arith in
-      let d : drop (x + 1 + length (replicate (to - (x + 1)) v)) (set l x v) ≡ drop (x + suc (length (replicate (to - (x + 1)) v))) l =
-      drop-set-lt (x + 1 + length (replicate (to - (x + 1)) v)) l x v (omega arith) ∙ ap (λ (z : ℕ). drop z l) u in
-      rw (t, d, k, append_assoc) refl
-
-  pub fill_end : (l r : List A) (x to : ℕ) → to ≤ x → patch l x (replicate (to - x) v) ≡ r → l ≡ r
-  fill_end l r x to h e = let z : to - x ≡ 0 = omega arith in sym (take-append-drop x l) ∙ (rw (z, add-zero) at e)
+-- a part filled with one value
+pub filled : {A : Type 0} (v : A) (a n : ℕ) (xs ys : List A) → ys ≡ replicate n v → take a xs ++ (ys ++ drop n (drop a xs)) ≡ patch xs a (replicate n v)
+filled v a n xs ys e =
+    let w : a + n - a ≡ n = omega arith in
+    rw w at (given_back a n {xs = xs} {xs' = xs} {ys = ys} {zs = replicate n v} e refl (length-replicate n v))

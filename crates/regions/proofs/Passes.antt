@@ -13,27 +13,13 @@ use lib.Ieee.{Float, lt}
 use Rattle.lists.specs.Parts.{block, patch}
 use Rattle.regions.specs.declared.Region.{Region}
 use Rattle.regions.specs.declared.Swept.{Swept}
-use Rattle.regions.specs.Regions.{touches_of, union_of, merging, flat, region_at, regions_in}
+use Rattle.regions.specs.Regions.{touches_of, merging, flat, region_at, regions_in}
 use Rattle.machine.specs.Merge.{Grown, take1, keep1, grown, remaining, grow, take_in, gather}
 use Rattle.lists.proofs.Parts.{patch_length}
 use Rattle.lists.proofs.Loops.{nothing_left}
 use Rattle.regions.proofs.Laws.{regions_length, regions_take, region_get, regions_set, rest-set, regions_snoc, drop_more}
 
--- ---- a value by a test
-pub cond_yes : {A : Type 0} (b : Bool) (x y z : A) → b ≡ true → z ≡ x → z ≡ cond b x y
-cond_yes b x y z e f = rw e f
-
-pub cond_no : {A : Type 0} (b : Bool) (x y z : A) → b ≡ false → z ≡ y → z ≡ cond b x y
-cond_no b x y z e f = rw e f
-
 -- ---- one pass
--- the region as grown after r was tested
-pub taken : (b : Bool) (g r : Region) {u : Region} → b ≡ true → u ≡ union_of g r → u ≡ take1 merging b g r
-taken b g r e f = rw e f
-
-pub not_taken : (b : Bool) (g r : Region) → b ≡ false → g ≡ take1 merging b g r
-not_taken b g r e = rw e refl
-
 -- what is known when the loop of `sweep` is at region i
 pub record Pass (n : ℕ) (r : Region) (l₀ l : List Float) (s : Swept) (i : ℕ) : Type 0 where
   pub same : length l ≡ length l₀

@@ -1,7 +1,7 @@
 -- A report's word and its slice. Assumes nothing.
 use mathlib.Core.Path.{◌≡◌, refl, ap, sym, ◌∙◌}
 use mathlib.Core.List.{List, [], ◌++◌, reverse, append_assoc}
-use Prim.Native.Nat.{ℕ, zero, suc, ◌+◌, ◌-◌, ◌*◌, ◌≤◌, ◌<◌}
+use Prim.Native.Nat.{ℕ, zero, suc, ◌+◌, ◌-◌, ◌*◌, ◌≤◌}
 use native.Mathlib.Omega.{arith}
 use lib.ListN.{length, take, drop, replicate, length-replicate, length-append}
 use lib.Seq.{take_at}
@@ -9,28 +9,12 @@ use lib.Ieee.{Float}
 use Rattle.lists.specs.Parts.{patch}
 use Rattle.floats.specs.Floats.{zero64}
 use Rattle.regions.specs.declared.Region.{Region}
-use Rattle.regions.specs.declared.Word.TheVariants.{Complete, Budget, Unseparated}
+use Rattle.regions.specs.declared.Word.TheVariants.{Complete}
 use Rattle.regions.specs.Reports.{word_for, report_slice}
 use Rattle.regions.specs.Regions.{merging, flats, regions_in}
 use Rattle.machine.specs.Merge.{gather, ordered, merged}
 use mathlib.Core.Logic.{◌↔◌}
 use Rattle.regions.proofs.Laws.{regions_length, flats-length, flats_read, drop_more}
-
--- ---- a report's word
-pub word-left : (g l : ℕ) → 0 < l → Budget ≡ word_for g l
-word-left zero (suc l) h = refl
-word-left (suc g) (suc l) h = refl
-word-left g zero h = absurd (omega arith)
-
-pub word_given : (g l : ℕ) → l ≤ 0 → 0 < g → Unseparated ≡ word_for g l
-word_given (suc g) zero h k = refl
-word_given (suc g) (suc l) h k = absurd (omega arith)
-word_given zero l h k = absurd (omega arith)
-
-pub word_none : (g l : ℕ) → l ≤ 0 → g ≤ 0 → Complete ≡ word_for g l
-word_none zero zero h k = refl
-word_none zero (suc l) h k = absurd (omega arith)
-word_none (suc g) l h k = absurd (omega arith)
 
 -- ---- the report
 report_is : (n m : ℕ) (rs : List Region) (l₀ l₂ l₃ : List Float) → m ≤ n → length rs ≡ m → take (m * 10) l₂ ≡ flats rs → drop (n * 10) l₂ ≡ drop (n * 10) l₀

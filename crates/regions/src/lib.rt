@@ -6,7 +6,7 @@ ghost use Rattle.lists.specs.Parts.{block, patch};
 ghost use Rattle.floats.specs.Floats.{zero64};
 ghost use Rattle.machine.specs.Merge.{take1, grown, remaining, take_in, gather, insert, ordered, merged};
 ghost use Rattle.regions.specs.Regions.{meet_of, touches_of, union_of, merging, flat, region_at, regions_in};
-ghost use Rattle.regions.specs.Reports.{word_for, report_slice};
+ghost use Rattle.regions.specs.Reports.{word_for, word_number, report_slice};
 
 // The ranges of the first and of the second line, and the lowest and the highest corner of a box.
 #[derive(Clone, Copy)]
@@ -24,11 +24,24 @@ pub struct Region {
 }
 
 // A report's first word.
-#[derive(Clone, Copy)]
+#[derive(Clone, Copy, Debug, PartialEq, Eq)]
 pub enum Word {
     Complete,
     Budget,
     Unseparated,
+}
+
+// The word's number, as other programs are handed it.
+impl From<Word> for u8 {
+    ghost from_gives = { λ word n. n ≡ word_number word };
+
+    fn from(word: Word) -> u8 {
+        match word {
+            Word::Complete => 0,
+            Word::Budget => 1,
+            Word::Unseparated => 2,
+        }
+    }
 }
 
 // What one pass leaves: the region as grown, and how many stay.
@@ -42,20 +55,14 @@ struct Swept {
 pub fn meet(a0: f64, a1: f64, b0: f64, b1: f64) -> bool
     ensures { result ≡ meet_of a0 a1 b0 b1 }
 {
-    if a0 <= b1 {
-        return b0 <= a1;
-    }
-    false
+    a0 <= b1 && b0 <= a1
 }
 
 // Whether the ranges of both lines meet; the boxes take no part.
 fn touches(a: Region, b: Region) -> bool
     ensures { result ≡ touches_of a b }
 {
-    if meet(a.a0, a.a1, b.a0, b.a1) {
-        return meet(a.b0, a.b1, b.b0, b.b1);
-    }
-    false
+    meet(a.a0, a.a1, b.a0, b.a1) && meet(a.b0, a.b1, b.b0, b.b1)
 }
 
 // The smallest ranges and the smallest box that hold both.
@@ -139,10 +146,8 @@ fn sweep(out: &mut [f64], n: usize, r: Region) -> Swept
         × (drop (n * 10) out.new ≡ drop (n * 10) out.old) }
 {
     let mut s = Swept { grown: r, kept: 0 };
-    let mut i = 0usize;
-    while i < n {
+    for i in 0..n {
         s = sweep_one(out, s, load(out, i));
-        i += 1;
     }
     s
 }
@@ -156,6 +161,7 @@ fn absorb(out: &mut [f64], n: usize, r: Region) -> usize
 {
     let mut had = n;
     let mut s = sweep(out, n, r);
+    // no `for`: how many passes there are is not known before
     while s.kept < had {
         had = s.kept;
         s = sweep(out, had, s.grown);
@@ -172,9 +178,7 @@ fn gather(raw: &[f64], n: usize, out: &mut [f64]) -> usize
         × (drop (n * 10) out.new ≡ drop (n * 10) out.old) }
 {
     let mut m = 0usize;
-    let mut i = n;
-    while i > 0 {
-        i -= 1;
+    for i in (0..n).rev() {
         m = absorb(out, m, load(raw, i));
     }
     m
@@ -190,6 +194,7 @@ fn insert(out: &mut [f64], k: usize, n: usize)
 {
     let r = load(out, k);
     let mut j = k;
+    // no `for`: the loop ends at the first region that doesn't start before r
     while j + 1 < n && out[(j + 1) * 10] < r.a0 {
         store(out, j, load(out, j + 1));
         j += 1;
@@ -203,22 +208,8 @@ fn sort(out: &mut [f64], n: usize)
     ensures { (regions_in n out.new ≡ ordered merging (regions_in n out.old))
         × (drop (n * 10) out.new ≡ drop (n * 10) out.old) }
 {
-    let mut k = n;
-    while k > 0 {
-        k -= 1;
+    for k in (0..n).rev() {
         insert(out, k, n);
-    }
-}
-
-// +0 from `from` up to `to`.
-fn clear(out: &mut [f64], from: usize, to: usize)
-    requires { to ≤ length out.old }
-    ensures { out.new ≡ patch out.old from (replicate (to - from) zero64) }
-{
-    let mut x = from;
-    while x < to {
-        out[x] = 0.0;
-        x += 1;
     }
 }
 
@@ -230,7 +221,7 @@ pub fn merged(raw: &[f64], n: usize, out: &mut [f64]) -> usize
 {
     let m = gather(raw, n, out);
     sort(out, m);
-    clear(out, m * 10, n * 10);
+    out[m * 10..n * 10].fill(0.0);
     m
 }
 

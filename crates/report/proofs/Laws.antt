@@ -1,8 +1,8 @@
 -- The regions of the nodes left, one a turn, and the tests of a report. Assumes nothing.
 use mathlib.Core.Path.{◌≡◌, refl, sym, ap, ◌∙◌}
-use mathlib.Core.Bool.{true, false, ◌&&◌}
+use mathlib.Core.Bool.{true, ◌&&◌}
 use mathlib.Core.List.{List, [], ◌∷◌, ◌++◌, append_assoc}
-use Prim.Native.Nat.{ℕ, zero, suc, ◌+◌, ◌*◌, ◌≤◌, ◌<◌}
+use Prim.Native.Nat.{ℕ, zero, suc, ◌+◌, ◌*◌, ◌≤◌}
 use native.Mathlib.Nat.{le_trans, mul-le-mul, mul-le-mul_right}
 use native.Mathlib.Numerals.{add-one}
 use native.Mathlib.Omega.{arith}
@@ -15,7 +15,7 @@ use Rattle.lists.proofs.Parts.{patch_twice}
 use Rattle.machine.specs.Merge.{merged}
 use Rattle.machine.specs.Marks.{marks_of}
 use Rattle.terms.specs.declared.Seam.{Seam}
-use Rattle.terms.specs.Terms.{seam_of1, seam_of2}
+use Rattle.terms.specs.Terms.{seam_of}
 use Rattle.stretches.specs.Stretches.{near_in}
 use Rattle.stretches.proofs.Marked.{report_marks}
 use Rattle.regions.specs.declared.Region.{Region}
@@ -30,12 +30,8 @@ use Rattle.states.specs.declared.Counts.{Counts}
 use Rattle.states.specs.States.{Memory, memory, Sizes, sizes, needed, enough, top_fits, search_with, is_search, over, counts_of, allowance_of, records_of}
 use Rattle.nodes.specs.Geometry.{Geometry}
 use Rattle.states.proofs.Tests.{and_first, and_second, slots_fit, room_all}
-use Rattle.report.specs.declared.Reported.TheVariants.{Told, Running, NoRoom}
-use Rattle.report.specs.Reports.{Output, output, out_room, reporting, slot_region, left_regions, raw_after, write_report, report_def}
-
--- slot k is there, of so many as there are nodes
-pub slot_below : (k n w len : ℕ) → k < n → n * w ≤ len → (k + 1) * w ≤ len
-slot_below k n w len h r = le_trans (mul-le-mul_right w (let g : k + 1 ≤ n = omega arith in g)) r
+use Rattle.verdicts.specs.declared.Side.TheVariants.{First, Second}
+use Rattle.report.specs.Reports.{Output, output, summary_of, out_room, reporting, slot_region, left_regions, raw_after, write_report, report_def}
 
 flats_snoc : (rs : List Region) (r : Region) → flats (rs ++ (r ∷ [])) ≡ flats rs ++ flat r
 flats_snoc [] r = refl
@@ -57,14 +53,6 @@ module _ (G : Geometry) (x : State) (nets1 nets2 ranges : List Float) where
       ∙ ap (λ (z : Region). patch raw₀ (g * 10) (flats L ++ flat z)) f
       ∙ ap (patch raw₀ (g * 10))
       (sym (flats_snoc L (slot_region G x nets1 nets2 ranges k)) ∙ ap (λ (j : ℕ). flats (left_regions G x nets1 nets2 ranges j)) (sym (add-one k)))
-
-  pub left_done : (raw₀ raw : List Float) (g k n : ℕ) → n ≤ k → k ≤ n → raw ≡ patch raw₀ (g * 10) (flats (left_regions G x nets1 nets2 ranges k))
-      → raw ≡ patch raw₀ (g * 10) (flats (left_regions G x nets1 nets2 ranges n))
-  left_done raw₀ raw g k n h h' e = e ∙ ap (λ (j : ℕ). patch raw₀ (g * 10) (flats (left_regions G x nets1 nets2 ranges j))) (let z : k ≡ n = omega arith in z)
-
--- nothing is written where there is nothing: the list before the first turn
-pub left-start : (G : Geometry) (x : State) (nets1 nets2 ranges raw : List Float) (g : ℕ) → raw ≡ patch raw (g * 10) (flats (left_regions G x nets1 nets2 ranges 0))
-left-start G x nets1 nets2 ranges raw g = let z : g * 10 + 0 ≡ g * 10 = omega arith in sym (rw z (lib.ListN.take-append-drop (g * 10) raw))
 
 -- ---- the room of an accepted report
 few_waiting : (P n : ℕ) (d : Depths) → top_fits P n d ≡ true → n ≤ P + 64
@@ -126,31 +114,18 @@ few_marks x m l p q r e =
 
 -- ---- a report: one test a return
 module _ (G : Geometry) (x : State) (u : Memory) (o : Output) where
-  pub report_running : over x.tally ≡ false → reporting Running u o ≡ report_def G x u o
-  report_running e = rw e refl
-
-  pub report_short : over x.tally ≡ true → enough (needed x) (sizes u) ≡ false → reporting NoRoom u o ≡ report_def G x u o
-  report_short e f = rw (e, f) refl
-
-  pub report_cramped : over x.tally ≡ true → enough (needed x) (sizes u) ≡ true → out_room (records_of x.tally) o ≡ false → reporting NoRoom u o ≡ report_def G x u o
-  report_cramped e f l = rw (e, f, l) refl
-
-  pub report_forged : over x.tally ≡ true → enough (needed x) (sizes u) ≡ true → out_room (records_of x.tally) o ≡ true → is_search x u ≡ false
-      → reporting NoRoom u o ≡ report_def G x u o
-  report_forged e f l s = rw (e, f, l, s) refl
-
   pub report_told : over x.tally ≡ true → enough (needed x) (sizes u) ≡ true → out_room (records_of x.tally) o ≡ true → is_search x u ≡ true
       → (w : Word) (c : Counts) (n : ℕ) (raw out : List Float) (marks : List ℕ) (a b : Seam) → w ≡ word_for x.tally.given x.tally.waiting → c ≡ counts_of x.tally
       → raw ≡ raw_after G x u → n ≡ length (merged merging (regions_in (x.tally.given + x.tally.waiting) raw))
       → out ≡ report_slice (x.tally.given + x.tally.waiting) (merged merging (regions_in (x.tally.given + x.tally.waiting) raw)) o.regions
-      → a ≡ seam_of1 x.terms → b ≡ seam_of2 x.terms → marks ≡ patch o.marks 0 (marks_of n (near_in a b out))
-      → reporting (Told w c n) (memory u.nets1 u.nets2 u.ranges u.depths raw) (output out marks) ≡ report_def G x u o
+      → a ≡ seam_of First x.terms → b ≡ seam_of Second x.terms → marks ≡ patch o.marks 0 (marks_of n (near_in a b out))
+      → reporting (summary_of w c n) (memory u.nets1 u.nets2 u.ranges u.depths raw) (output out marks) ≡ report_def G x u o
   report_told e f l s w c n raw out marks a b ew ec er en eo ea eb em =
       let fn = en ∙ ap (λ (r : List Float). length (merged merging (regions_in (x.tally.given + x.tally.waiting) r))) er in
       let fo = eo ∙ ap (λ (r : List Float). report_slice (x.tally.given + x.tally.waiting) (merged merging (regions_in (x.tally.given + x.tally.waiting) r)) o.regions) er in
-      let fm = report_marks (seam_of1 x.terms) (seam_of2 x.terms) (x.tally.given + x.tally.waiting) n (merged merging (regions_in (x.tally.given + x.tally.waiting) (raw_after G x u)))
+      let fm = report_marks (seam_of First x.terms) (seam_of Second x.terms) (x.tally.given + x.tally.waiting) n (merged merging (regions_in (x.tally.given + x.tally.waiting) (raw_after G x u)))
       o.regions out o.marks marks fn fo (em ∙ (λ i. patch o.marks 0 (marks_of n (near_in (ea i) (eb i) out)))) in
-      (λ i. reporting (Told (ew i) (ec i) (fn i)) (memory u.nets1 u.nets2 u.ranges u.depths (er i)) (output (fo i) (fm i)))
+      (λ i. reporting (summary_of (ew i) (ec i) (fn i)) (memory u.nets1 u.nets2 u.ranges u.depths (er i)) (output (fo i) (fm i)))
       ∙ accepted
     where
       accepted : write_report G x u o ≡ report_def G x u o

@@ -216,13 +216,12 @@ fn shifted(m: u64) -> Scaled
     requires { (0 < m) × (m < 2 ^ 53) }
     ensures { (result.m ≡ m * 2 ^ result.by) × (2 ^ 52 ≤ result.m) × (result.m < 2 ^ 53) × (result.by ≤ 52) }
 {
-    let mut x = m;
-    let mut by = 0;
-    while x < LEADING {
-        x = x * 2;
-        by += 1;
+    // 11 zeros lead a number of 53 digits
+    let by = m.leading_zeros() - 11;
+    Scaled {
+        m: m << by,
+        by: u64::from(by),
     }
-    Scaled { m: x, by }
 }
 
 // The number m * 2^up, in units of 2^-1126, with m of 53 digits.

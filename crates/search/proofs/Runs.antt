@@ -6,17 +6,15 @@ use Prim.Native.Nat.{ℕ, zero, suc, ◌+◌, ◌*◌, ◌≤◌, ◌<◌}
 use native.Mathlib.Numerals.{add-one}
 use native.Mathlib.Omega.{arith}
 use Rattle.floats.specs.Stations.{Piece}
-use Rattle.verdicts.specs.declared.Choice.{Choice}
-use Rattle.verdicts.specs.declared.Choice.TheVariants.{First, Second, Neither}
+use Rattle.std.proofs.Common.{Option, Some, None, Result, Ok, Err}
+use Rattle.verdicts.specs.declared.Side.{Side}
 use Rattle.verdicts.specs.declared.Verdict.{Verdict}
 use Rattle.verdicts.specs.declared.Verdict.TheVariants.{Settled, Split, Unseparated}
 use Rattle.states.specs.declared.State.{State}
 use Rattle.states.specs.declared.Depths.{Depths}
 use Rattle.states.specs.States.{Memory, sizes, needed, enough, depth_at, is_search, over}
-use Rattle.search.specs.declared.Stepped.{Stepped}
-use Rattle.search.specs.declared.Stepped.TheVariants.{Next, Ended, NoRoom}
-use Rattle.search.specs.declared.Own.{Own}
-use Rattle.search.specs.declared.Own.TheVariants.{Is, Ended as OwnEnded, NoRoom as OwnNoRoom}
+use Rattle.states.specs.declared.StepError.{StepError}
+use Rattle.states.specs.declared.StepError.TheVariants.{Ended, NoRoom}
 use Rattle.nodes.specs.Geometry.{Geometry}
 use Rattle.nodes.specs.Moves.{settled_state, given_state, stopped_state, halved_state}
 use Rattle.search.specs.Steps.{Stepping, stepping, part1, part2, choice_at, split_at, divide_at, act_on, step_def, own_def}
@@ -30,45 +28,42 @@ left x = 2 * x.tally.unspent + x.tally.waiting
 abbrev pub Falls : State → State → Type 0
 Falls x y = (left y + 1 ≡ left x) ⊎ ((left y ≡ left x) × (y.tally.stopped ≡ true))
 
-never : {A : Type 0} (a : Stepped) (y : State) → a ≡ Ended ⊎ a ≡ NoRoom → a ≡ Next y → A
-never a y (inl e) f = absurd (let z : ◌≡◌ {A = ℕ} 0 1 = cc in omega arith)
-never a y (inr e) f = absurd (let z : ◌≡◌ {A = ℕ} 0 1 = cc in omega arith)
+never : {A : Type 0} (e : StepError) (y : State) → Err e ≡ Ok y → A
+never e y f = absurd (let z : ◌≡◌ {A = ℕ} 0 1 = cc in omega arith)
 
-told : (x y z : State) → Falls x z → Next z ≡ Next y → Falls x y
+told : (x y z : State) → Falls x z → ◌≡◌ {A = Result State StepError} (Ok z) (Ok y) → Falls x y
 told x y z f e = let g : z ≡ y = cc in subst (Falls x) g f
 
 module _ (G : Geometry) (x : State) (u : Memory) (y : State) where
-  split_falls : (b : Bool) (s k : ℕ) (d : Depths) (p q : Piece) → s ≡ x.tally.unspent → suc k ≡ x.tally.waiting → (split_at G b s k x u p q d).answer ≡ Next y → Falls x y
+  split_falls : (b : Side) (s k : ℕ) (d : Depths) (p q : Piece) → s ≡ x.tally.unspent → suc k ≡ x.tally.waiting → (split_at G b s k x u p q d).answer ≡ Ok y → Falls x y
   split_falls b zero k d p q es ek e = told x y (stopped_state x) (inr (omega arith, refl)) e
   split_falls b (suc s) k d p q es ek e = told x y (halved_state k s x) (inl (omega arith)) e
 
-  divide_falls : (c : Choice) (s k : ℕ) (d : Depths) (p q : Piece) → s ≡ x.tally.unspent → suc k ≡ x.tally.waiting → (divide_at G c s k x u p q d).answer ≡ Next y → Falls x y
-  divide_falls First s k d p q es ek e = split_falls false s k d p q es ek e
-  divide_falls Second s k d p q es ek e = split_falls true s k d p q es ek e
-  divide_falls Neither s k d p q es ek e = told x y (given_state k x) (inl (omega arith)) e
+  divide_falls : (c : Option Side) (s k : ℕ) (d : Depths) (p q : Piece) → s ≡ x.tally.unspent → suc k ≡ x.tally.waiting → (divide_at G c s k x u p q d).answer ≡ Ok y → Falls x y
+  divide_falls (Some line) s k d p q es ek e = split_falls line s k d p q es ek e
+  divide_falls None s k d p q es ek e = told x y (given_state k x) (inl (omega arith)) e
 
-  act_falls : (n : ℕ) (v : Verdict) → n ≡ x.tally.waiting → (act_on G n v x u).answer ≡ Next y → Falls x y
-  act_falls zero v en e = never Ended y (inl refl) e
+  act_falls : (n : ℕ) (v : Verdict) → n ≡ x.tally.waiting → (act_on G n v x u).answer ≡ Ok y → Falls x y
+  act_falls zero v en e = never Ended y e
   act_falls (suc k) (Settled by) en e = told x y (settled_state by k x) (inl (omega arith)) e
   act_falls (suc k) Unseparated en e = told x y (given_state k x) (inl (omega arith)) e
   act_falls (suc k) Split en e =
       let d = depth_at u.depths k in
       divide_falls (choice_at G (part1 x u k) (part2 x u k) d) x.tally.unspent k d (part1 x u k) (part2 x u k) refl en e
 
-  step_falls : (v : Verdict) → (step_def G x u v).answer ≡ Next y → Falls x y
+  step_falls : (v : Verdict) → (step_def G x u v).answer ≡ Ok y → Falls x y
   step_falls v e = go (over x.tally) (enough (needed x) (sizes u) && is_search x u) e
     where
-      go : (a b : Bool) → (cond {A = Stepping} a (stepping Ended u) (cond b (act_on G x.tally.waiting v x u) (stepping NoRoom u))).answer ≡ Next y → Falls x y
-      go true b e = never Ended y (inl refl) e
+      go : (a b : Bool) → (cond {A = Stepping} a (stepping (Err Ended) u) (cond b (act_on G x.tally.waiting v x u) (stepping (Err NoRoom) u))).answer ≡ Ok y → Falls x y
+      go true b e = never Ended y e
       go false true e = act_falls x.tally.waiting v refl e
-      go false false e = never NoRoom y (inr refl) e
+      go false false e = never NoRoom y e
 
-  carried_falls : (a : Own) → (carried_out G x u a).answer ≡ Next y → Falls x y
-  carried_falls (Is v) e = step_falls v e
-  carried_falls OwnEnded e = never Ended y (inl refl) e
-  carried_falls OwnNoRoom e = never NoRoom y (inr refl) e
+  carried_falls : (a : Result Verdict StepError) → (carried_out G x u a).answer ≡ Ok y → Falls x y
+  carried_falls (Ok v) e = step_falls v e
+  carried_falls (Err r) e = never r y e
 
-  pub own_step_falls : (own_step_def G x u).answer ≡ Next y → Falls x y
+  pub own_step_falls : (own_step_def G x u).answer ≡ Ok y → Falls x y
   own_step_falls e = carried_falls (own_def G x u) e
 
 -- ---- more turns than are left make no difference
@@ -79,29 +74,22 @@ pub enough_turns : (G : Geometry) (x y : State) (m : Memory) → 1 ≤ left x �
 enough_turns G x y m h (inl e) = ap (λ (n : ℕ). run_for G n y m) e
 enough_turns G x y m h (inr e) = rw (add-one, stopped_over y e.1) (go (left x) h)
   where
-    go : (n : ℕ) → 1 ≤ n → stepping (Next y) m ≡ run_for G n y m
+    go : (n : ℕ) → 1 ≤ n → stepping (Ok y) m ≡ run_for G n y m
     go zero h = absurd (omega arith)
     go (suc n) h = rw (stopped_over y e.1) refl
 
 -- ---- one turn, and the ends
 module _ (G : Geometry) (x : State) (u : Memory) where
-  pub run_over : over x.tally ≡ true → run_for G (left x + 1) x u ≡ stepping (Next x) u
-  run_over o = rw (add-one, o) refl
-
   unrolled : (n : ℕ) → over x.tally ≡ false → run_for G (n + 1) x u ≡ turned (run_for G n) x (own_step_def G x u)
-  unrolled n o = ap (λ (k : ℕ). run_for G k x u) (add-one n) ∙ ap (λ (b : Bool). cond b (stepping (Next x) u) (turned (run_for G n) x (own_step_def G x u))) o
+  unrolled n o = ap (λ (k : ℕ). run_for G k x u) (add-one n) ∙ ap (λ (b : Bool). cond b (stepping (Ok x) u) (turned (run_for G n) x (own_step_def G x u))) o
 
-  pub run_turn : (y : State) (m : Memory) → over x.tally ≡ false → 1 ≤ left x → stepping (Next y) m ≡ own_step_def G x u → run_for G (left y + 1) y m ≡ run_for G (left x + 1) x u
+  pub run_turn : (y : State) (m : Memory) → over x.tally ≡ false → 1 ≤ left x → stepping (Ok y) m ≡ own_step_def G x u → run_for G (left y + 1) y m ≡ run_for G (left x + 1) x u
   run_turn y m o h e =
       enough_turns G x y m h (own_step_falls G x u y (ap (λ (s : Stepping). s.answer) (sym e)))
       ∙ ap (turned (run_for G (left x)) x) e ∙ sym (unrolled (left x) o)
 
-  pub run_refused : (a : Stepped) (m : Memory) → over x.tally ≡ false → a ≡ Ended ⊎ a ≡ NoRoom → stepping a m ≡ own_step_def G x u → stepping a m ≡ run_for G (left x + 1) x u
-  run_refused a m o f e = go f ∙ ap (turned (run_for G (left x)) x) e ∙ sym (unrolled (left x) o)
-    where
-      go : a ≡ Ended ⊎ a ≡ NoRoom → stepping a m ≡ turned (run_for G (left x)) x (stepping a m)
-      go (inl e) = rw e refl
-      go (inr e) = rw e refl
+  pub run_refused : (r : StepError) (m : Memory) → over x.tally ≡ false → stepping (Err r) m ≡ own_step_def G x u → stepping (Err r) m ≡ run_for G (left x + 1) x u
+  run_refused r m o e = ap (turned (run_for G (left x)) x) e ∙ sym (unrolled (left x) o)
 
 -- the measure of the loop
 abbrev pub bit : Bool → ℕ

@@ -1,41 +1,27 @@
 -- A step and the own verdict on a state and the lent memory (document 01, module Search; `Pairs::search` and `split` of the Rust). Definitions only.
-use Rattle.std.specs.Prelude.{[], ◌∷◌, ◌++◌, Bool, true, false, not, ◌&&◌, cond, ℕ, zero, suc, ◌*◌, get_or}
+use Rattle.std.specs.Prelude.{[], ◌∷◌, ◌++◌, Option, Some, None, Result, Ok, Err, Bool, true, false, ◌&&◌, cond, ℕ, zero, suc, ◌*◌, get_or}
 use Rattle.std.specs.Float.{nan}
 use Rattle.floats.specs.Stations.{Piece}
 use Rattle.lists.specs.Parts.{block, patch}
 use Rattle.verdicts.specs.declared.Verdict.{Verdict}
 use Rattle.verdicts.specs.declared.Verdict.TheVariants.{Settled, Split, Unseparated}
-use Rattle.verdicts.specs.declared.Choice.{Choice}
-use Rattle.verdicts.specs.declared.Choice.TheVariants.{First, Second, Neither}
-use Rattle.machine.specs.Machine.{choose}
+use Rattle.verdicts.specs.declared.Side.{Side}
+use Rattle.machine.specs.Machine.{choose, is_first, is_second}
 use Rattle.regions.specs.Regions.{flat}
 use Rattle.states.specs.declared.State.{State}
 use Rattle.states.specs.declared.Depths.{Depths}
-use Rattle.search.specs.declared.Stepped.{Stepped}
-use Rattle.search.specs.declared.Stepped.TheVariants.{Next, Ended, NoRoom}
-use Rattle.search.specs.declared.Own.{Own}
-use Rattle.search.specs.declared.Own.TheVariants.{Is, Ended as OwnEnded, NoRoom as OwnNoRoom}
+use Rattle.states.specs.declared.StepError.{StepError}
+use Rattle.states.specs.declared.StepError.TheVariants.{Ended, NoRoom}
 use Rattle.nodes.specs.Geometry.{Geometry, lower_half, upper_half, region_for}
 use Rattle.nodes.specs.Moves.{settled_state, given_state, stopped_state, halved_state}
 use Rattle.states.specs.States.{Memory, sizes, needed, enough, enough_own, depth_at, pair_of, deepened, at_end1, at_end2, is_search, over}
 
--- the paper's number for each answer, 0 for one that is no refusal
-abbrev pub stepped_number : Stepped → ℕ
-stepped_number (Next x) = 0
-stepped_number Ended = 20
-stepped_number NoRoom = 19
-
-abbrev pub own_number : Own → ℕ
-own_number (Is v) = 0
-own_number OwnEnded = 20
-own_number OwnNoRoom = 19
-
 -- what a step answers, and the memory afterwards
 pub record Stepping : Type 0 where
-  pub answer : Stepped
+  pub answer : Result State StepError
   pub memory : Memory
 
-abbrev pub stepping : Stepped → Memory → Stepping
+abbrev pub stepping : Result State StepError → Memory → Stepping
 stepping a u = record { answer = a; memory = u }
 
 -- ---- a node read from its slot
@@ -57,42 +43,41 @@ halves G true false p = lower_half G p
 halves G false u p = p
 
 -- the line that is halved of a node with the parts p and q and the depths d
-abbrev pub choice_at : Geometry → Piece → Piece → Depths → Choice
+abbrev pub choice_at : Geometry → Piece → Piece → Depths → Option Side
 choice_at G p q d = choose (G.second_halved p.net q.net) (at_end1 d) (at_end2 d)
 
--- slots k and k + 1 after a split of that node along the second line (true) or the first: the upper half is put down first, the lower on top
-abbrev pub split_memory : Geometry → Bool → ℕ → State → Memory → Piece → Piece → Depths → Memory
-split_memory G second k x u p q d =
-    let p0 = halves G (not second) true p in
-    let p1 = halves G (not second) false p in
-    let q0 = halves G second true q in
-    let q1 = halves G second false q in
+-- slots k and k + 1 after a split of that node along a line: the upper half is put down first, the lower on top
+abbrev pub split_memory : Geometry → Side → ℕ → State → Memory → Piece → Piece → Depths → Memory
+split_memory G line k x u p q d =
+    let p0 = halves G (is_first line) true p in
+    let p1 = halves G (is_first line) false p in
+    let q0 = halves G (is_second line) true q in
+    let q1 = halves G (is_second line) false q in
     record {
       nets1 = patch u.nets1 (k * (4 * x.width1)) (p0.net ++ p1.net);
       nets2 = patch u.nets2 (k * (4 * x.width2)) (q0.net ++ q1.net);
       ranges = patch u.ranges (k * 4) ((p0.lo ∷ p0.hi ∷ q0.lo ∷ q0.hi ∷ []) ++ (p1.lo ∷ p1.hi ∷ q1.lo ∷ q1.hi ∷ []));
-      depths = patch u.depths (k * 2) (pair_of (deepened second d) ++ pair_of (deepened second d));
+      depths = patch u.depths (k * 2) (pair_of (deepened line d) ++ pair_of (deepened line d));
       raw = u.raw;
     }
 
 -- ---- a step
 abbrev pub give_up_at : Geometry → ℕ → State → Memory → Piece → Piece → Stepping
-give_up_at G k x u p q = stepping (Next (given_state k x)) (given_memory G x u p q)
+give_up_at G k x u p q = stepping (Ok (given_state k x)) (given_memory G x u p q)
 
 -- a split along this line, at no allowance and otherwise
-abbrev pub split_at : Geometry → Bool → ℕ → ℕ → State → Memory → Piece → Piece → Depths → Stepping
-split_at G second zero k x u p q d = stepping (Next (stopped_state x)) u
-split_at G second (suc s) k x u p q d = stepping (Next (halved_state k s x)) (split_memory G second k x u p q d)
+abbrev pub split_at : Geometry → Side → ℕ → ℕ → State → Memory → Piece → Piece → Depths → Stepping
+split_at G line zero k x u p q d = stepping (Ok (stopped_state x)) u
+split_at G line (suc s) k x u p q d = stepping (Ok (halved_state k s x)) (split_memory G line k x u p q d)
 
-abbrev pub divide_at : Geometry → Choice → ℕ → ℕ → State → Memory → Piece → Piece → Depths → Stepping
-divide_at G First s k x u p q d = split_at G false s k x u p q d
-divide_at G Second s k x u p q d = split_at G true s k x u p q d
-divide_at G Neither s k x u p q d = give_up_at G k x u p q
+abbrev pub divide_at : Geometry → Option Side → ℕ → ℕ → State → Memory → Piece → Piece → Depths → Stepping
+divide_at G (Some line) s k x u p q d = split_at G line s k x u p q d
+divide_at G None s k x u p q d = give_up_at G k x u p q
 
 -- what a verdict for the top node, node k, does
 abbrev pub act_on : Geometry → ℕ → Verdict → State → Memory → Stepping
-act_on G zero v x u = stepping Ended u
-act_on G (suc k) (Settled by) x u = stepping (Next (settled_state by k x)) u
+act_on G zero v x u = stepping (Err Ended) u
+act_on G (suc k) (Settled by) x u = stepping (Ok (settled_state by k x)) u
 act_on G (suc k) Split x u =
     let p = part1 x u k in
     let q = part2 x u k in
@@ -103,14 +88,14 @@ act_on G (suc k) Unseparated x u = give_up_at G k x u (part1 x u k) (part2 x u k
 -- 20, then 19
 abbrev pub step_def : Geometry → State → Memory → Verdict → Stepping
 step_def G x u v =
-    cond (over x.tally) (stepping Ended u)
-    (cond (enough (needed x) (sizes u) && is_search x u) (act_on G x.tally.waiting v x u) (stepping NoRoom u))
+    cond (over x.tally) (stepping (Err Ended) u)
+    (cond (enough (needed x) (sizes u) && is_search x u) (act_on G x.tally.waiting v x u) (stepping (Err NoRoom) u))
 
 -- ---- the search's own verdict: it writes nothing
-abbrev pub judge_at : Geometry → ℕ → State → Memory → Own
-judge_at G zero x u = OwnEnded
-judge_at G (suc k) x u = Is (G.clearing x.gap (part1 x u k).net (part2 x u k).net)
+abbrev pub judge_at : Geometry → ℕ → State → Memory → Result Verdict StepError
+judge_at G zero x u = Err Ended
+judge_at G (suc k) x u = Ok (G.clearing x.gap (part1 x u k).net (part2 x u k).net)
 
 -- 20 and 19 as for a step
-abbrev pub own_def : Geometry → State → Memory → Own
-own_def G x u = cond (over x.tally) OwnEnded (cond (enough_own (needed x) (sizes u) && is_search x u) (judge_at G x.tally.waiting x u) OwnNoRoom)
+abbrev pub own_def : Geometry → State → Memory → Result Verdict StepError
+own_def G x u = cond (over x.tally) (Err Ended) (cond (enough_own (needed x) (sizes u) && is_search x u) (judge_at G x.tally.waiting x u) (Err NoRoom))

@@ -1,5 +1,5 @@
 -- What the tests of a state and of the lent lengths say, once they have passed. Assumes nothing.
-use mathlib.Core.Path.{◌≡◌, refl}
+use mathlib.Core.Path.{◌≡◌, refl, ap}
 use mathlib.Core.Bool.{Bool, true, false, ◌&&◌, ◌||◌, cond, true≢false, false≢true}
 use mathlib.Core.List.{List}
 use Prim.Native.Nat.{ℕ, zero, suc, ◌+◌, ◌-◌, ◌*◌, ◌≤◌}
@@ -11,8 +11,10 @@ use Rattle.states.specs.declared.Tally.{Tally}
 use Rattle.states.specs.declared.State.{State}
 use Rattle.states.specs.declared.Depths.{Depths}
 use Rattle.states.specs.declared.Top.{Top}
-use Rattle.states.specs.declared.Top.TheVariants.{Node, Ended, NoRoom}
-use Rattle.states.specs.States.{Sizes, needed, enough, enough_own, depth_at, top_fits, search_with, top_depth, is_zero, over, top_of, allowance_of, records_of}
+use Rattle.states.specs.declared.StepError.{StepError}
+use Rattle.states.specs.declared.StepError.TheVariants.{Ended, NoRoom}
+use Rattle.std.proofs.Common.{Result, Ok, Err}
+use Rattle.states.specs.States.{Sizes, needed, enough, enough_own, top_fits, search_with, top_depth, is_zero, over, top_of, allowance_of, records_of}
 
 -- ---- both halves of a test
 pub and_first : (a b : Bool) → a && b ≡ true → a ≡ true
@@ -131,55 +133,39 @@ room_all x s e =
       raw = leb-true _ _ (and_second b4 b5 e4);
     }
 
-pub top_depth_at : (n : ℕ) (l : List ℕ) → 1 ≤ n → top_depth n l ≡ depth_at l (n - 1)
-top_depth_at zero l h = absurd (omega arith)
-top_depth_at (suc n) l h = let e : suc n - 1 ≡ n = omega arith in rw e refl
-
 pub one_more : (n : ℕ) → 1 ≤ n → n ≡ suc (n - 1)
 one_more n h = omega arith
 
 -- ---- what `top_node` answers, and what its answer says
-abbrev top_with : Tally → Depths → Bool → Bool → Top
-top_with t d o s = cond o Ended (cond s (Node (t.waiting - 1) d) NoRoom)
+abbrev top_with : Tally → Depths → Bool → Bool → Result Top StepError
+top_with t d o s = cond o (Err Ended) (cond s (Ok (record { place = t.waiting - 1; depth = d })) (Err NoRoom))
 
 module _ (t : Tally) (room : Bool) (depths : List ℕ) where
   abbrev d : Depths
   d = top_depth t.waiting depths
 
-  pub ended_top : over t ≡ true → Ended ≡ top_of t room depths
-  ended_top o = rw o refl
-
-  pub short_top : over t ≡ false → room ≡ false → NoRoom ≡ top_of t room depths
-  short_top o r = rw (o, r) refl
-
-  pub forged_top : over t ≡ false → room ≡ true → search_with t d ≡ false → NoRoom ≡ top_of t room depths
-  forged_top o r s = rw (o, r, s) refl
-
-  pub node_top : (e : Depths) → over t ≡ false → room ≡ true → e ≡ d → search_with t e ≡ true → Node (t.waiting - 1) e ≡ top_of t room depths
-  node_top e o r h s = rw (o, r, ← h, s) refl
-
-  pub top_ended : Ended ≡ top_of t room depths → over t ≡ true
+  pub top_ended : Err Ended ≡ top_of t room depths → over t ≡ true
   top_ended e = go (over t) (room && search_with t d) e
     where
-      go : (o s : Bool) → Ended ≡ top_with t d o s → o ≡ true
+      go : (o s : Bool) → Err Ended ≡ top_with t d o s → o ≡ true
       go true s e = refl
       go false true e = absurd (let z : ◌≡◌ {A = ℕ} 0 1 = cc in omega arith)
       go false false e = absurd (let z : ◌≡◌ {A = ℕ} 0 1 = cc in omega arith)
 
-  pub top_refused : NoRoom ≡ top_of t room depths → (over t ≡ false) × (room && search_with t d ≡ false)
+  pub top_refused : Err NoRoom ≡ top_of t room depths → (over t ≡ false) × (room && search_with t d ≡ false)
   top_refused e = go (over t) (room && search_with t d) e
     where
-      go : (o s : Bool) → NoRoom ≡ top_with t d o s → (o ≡ false) × (s ≡ false)
+      go : (o s : Bool) → Err NoRoom ≡ top_with t d o s → (o ≡ false) × (s ≡ false)
       go true s e = absurd (let z : ◌≡◌ {A = ℕ} 0 1 = cc in omega arith)
       go false true e = absurd (let z : ◌≡◌ {A = ℕ} 0 1 = cc in omega arith)
       go false false e = (refl, refl)
 
-  pub top_node_lem : (k : ℕ) (e : Depths) → Node k e ≡ top_of t room depths → (over t ≡ false) × (room ≡ true) × (search_with t d ≡ true) × (k ≡ t.waiting - 1) × (e ≡ d)
-  top_node_lem k e h =
+  pub top_node_lem : (w : Top) → Ok w ≡ top_of t room depths → (over t ≡ false) × (room ≡ true) × (search_with t d ≡ true) × (w.place ≡ t.waiting - 1) × (w.depth ≡ d)
+  top_node_lem w h =
       let g = go (over t) (room && search_with t d) h in
-      (g.0, and_first room (search_with t d) g.1, and_second room (search_with t d) g.1, g.2, g.3)
+      (g.0, and_first room (search_with t d) g.1, and_second room (search_with t d) g.1, ap (λ (v : Top). v.place) g.2, ap (λ (v : Top). v.depth) g.2)
     where
-      go : (o s : Bool) → Node k e ≡ top_with t d o s → (o ≡ false) × (s ≡ true) × (k ≡ t.waiting - 1) × (e ≡ d)
+      go : (o s : Bool) → Ok w ≡ top_with t d o s → (o ≡ false) × (s ≡ true) × (w ≡ record { place = t.waiting - 1; depth = d })
       go true s e = absurd (let z : ◌≡◌ {A = ℕ} 0 1 = cc in omega arith)
-      go false true e = (refl, refl, cc, cc)
+      go false true e = (refl, refl, cc)
       go false false e = absurd (let z : ◌≡◌ {A = ℕ} 0 1 = cc in omega arith)

@@ -1,13 +1,16 @@
 -- The state, the lent memory, and number 19's tests of both (document 01, the paragraph under the table). Definitions only.
-use Rattle.std.specs.Prelude.{List, [], ◌∷◌, Bool, true, false, ◌&&◌, ◌||◌, cond, ℕ, zero, suc, ◌+◌, ◌-◌, ◌*◌, leb, eqb, length, get_or, Float}
+use Rattle.std.specs.Prelude.{List, [], ◌∷◌, Result, Ok, Err, Bool, true, false, ◌&&◌, ◌||◌, cond, ℕ, zero, suc, ◌+◌, ◌-◌, ◌*◌, leb, eqb, length, get_or, Float}
 use Rattle.lists.specs.Parts.{block}
+use Rattle.verdicts.specs.declared.Side.{Side}
+use Rattle.verdicts.specs.declared.Side.TheVariants.{First, Second}
 use Rattle.terms.specs.declared.Terms.{Terms}
 use Rattle.states.specs.declared.Tally.{Tally}
 use Rattle.states.specs.declared.State.{State}
 use Rattle.states.specs.declared.Counts.{Counts}
 use Rattle.states.specs.declared.Depths.{Depths}
 use Rattle.states.specs.declared.Top.{Top}
-use Rattle.states.specs.declared.Top.TheVariants.{Node, Ended, NoRoom}
+use Rattle.states.specs.declared.StepError.{StepError}
+use Rattle.states.specs.declared.StepError.TheVariants.{Ended, NoRoom}
 
 -- "two depths, each at most 32": the most halvings of one line between its piece and a node
 abbrev pub limit : ℕ
@@ -96,10 +99,10 @@ depth_at depths k = depths_of (get_or (block 2 k depths) 0 0) (get_or (block 2 k
 abbrev pub pair_of : Depths → List ℕ
 pair_of d = d.first ∷ d.second ∷ []
 
--- one deeper on the second line (true), or on the first
-abbrev pub deepened : Bool → Depths → Depths
-deepened true d = depths_of d.first (suc d.second)
-deepened false d = depths_of (suc d.first) d.second
+-- one deeper on a line
+abbrev pub deepened : Side → Depths → Depths
+deepened Second d = depths_of d.first (suc d.second)
+deepened First d = depths_of (suc d.first) d.second
 
 -- a line at the limit is halved no more
 abbrev pub at_end1 : Depths → Bool
@@ -154,13 +157,18 @@ counts_of t =
     }
 
 -- ---- what a call finds on top
-abbrev pub top_number : Top → ℕ
-top_number (Node k depth) = 0
-top_number Ended = 20
-top_number NoRoom = 19
+-- the paper's number of a refusal
+abbrev pub step_error_number : StepError → ℕ
+step_error_number Ended = 20
+step_error_number NoRoom = 19
+
+-- the paper's number for an answer, whose refusals have these numbers: 0 for one that is no refusal
+abbrev pub refusal_number : {A E : Type 0} → (E → ℕ) → Result A E → ℕ
+refusal_number number (Ok a) = 0
+refusal_number number (Err e) = number e
 
 -- 20, then 19: for a slice too short, `room` being false, or a state that is no search's
-abbrev pub top_of : Tally → Bool → List ℕ → Top
+abbrev pub top_of : Tally → Bool → List ℕ → Result Top StepError
 top_of t room depths =
     let d = top_depth t.waiting depths in
-    cond (over t) Ended (cond (room && search_with t d) (Node (t.waiting - 1) d) NoRoom)
+    cond (over t) (Err Ended) (cond (room && search_with t d) (Ok (record { place = t.waiting - 1; depth = d })) (Err NoRoom))

@@ -2,7 +2,7 @@
 #![tactic(auto)]
 
 ghost use Rattle.std.specs.Prelude.{◌≡◌, ◌+◌, ◌*◌, ◌≤◌, eqb, get_or};
-ghost use Rattle.states.specs.States.{allowance_of, records_of, needed, enough, enough_own, top_depth, top_fits, search_with, over, counts_of, top_of, first_state};
+ghost use Rattle.states.specs.States.{step_error_number, allowance_of, records_of, needed, enough, enough_own, top_depth, top_fits, search_with, over, counts_of, top_of, first_state};
 
 use terms::Terms;
 
@@ -66,12 +66,32 @@ pub struct Depths {
     pub second: u8,
 }
 
-// What a call finds on top: a node and its depths, number 20, or number 19.
+// What a call finds on top: the node's place among those waiting, from the bottom, and its depths.
 #[derive(Clone, Copy)]
-pub enum Top {
-    Node(u32, Depths),
+pub struct Top {
+    pub place: u32,
+    pub depth: Depths,
+}
+
+// Why a step or the own verdict is refused.
+#[derive(Clone, Copy, Debug, PartialEq, Eq)]
+pub enum StepError {
+    // the search has ended
     Ended,
+    // a lent slice is too short, or the state is no search's
     NoRoom,
+}
+
+// The number that is printed of a refusal.
+impl From<StepError> for u8 {
+    ghost from_gives = { λ e n. n ≡ step_error_number e };
+
+    fn from(e: StepError) -> u8 {
+        match e {
+            StepError::Ended => 20,
+            StepError::NoRoom => 19,
+        }
+    }
 }
 
 // The state of a fresh search of so many pairs.
@@ -104,10 +124,7 @@ pub fn fresh(pairs: usize, splits: u32, w1: usize, w2: usize, gap: f64, terms: T
 pub fn ended(t: Tally) -> bool
     ensures { result ≡ over t }
 {
-    if t.stopped {
-        return true;
-    }
-    t.waiting == 0
+    t.stopped || t.waiting == 0
 }
 
 // The result: "pairs, visits (steps taken), splits, settled, given, left".
@@ -148,13 +165,9 @@ pub fn has_room_to_judge(st: State, nets1: usize, nets2: usize, depths: usize) -
     ensures { result ≡ enough_own (needed st) (record { nets1 = nets1; nets2 = nets2; ranges = 0; depths = depths; raw = 0 }) }
 {
     let nodes = st.tally.pairs as usize + 64;
-    if nets1 < nodes * (4 * (st.width1 as usize)) {
-        return false;
-    }
-    if nets2 < nodes * (4 * (st.width2 as usize)) {
-        return false;
-    }
-    depths >= nodes * 2
+    nodes * (4 * (st.width1 as usize)) <= nets1
+        && nodes * (4 * (st.width2 as usize)) <= nets2
+        && nodes * 2 <= depths
 }
 
 // Whether lent slices of these lengths are enough for a step.
@@ -168,23 +181,16 @@ pub fn has_room(
 ) -> bool
     ensures { result ≡ enough (needed st) (record { nets1 = nets1; nets2 = nets2; ranges = ranges; depths = depths; raw = raw }) }
 {
-    if !has_room_to_judge(st, nets1, nets2, depths) {
-        return false;
-    }
-    if ranges < (st.tally.pairs as usize + 64) * 4 {
-        return false;
-    }
-    raw >= records(st.tally) * 10
+    has_room_to_judge(st, nets1, nets2, depths)
+        && (st.tally.pairs as usize + 64) * 4 <= ranges
+        && records(st.tally) * 10 <= raw
 }
 
 // The depth in place i; 0 where it isn't lent.
 fn depth_at(depths: &[u8], i: usize) -> u8
     ensures { result ≡ get_or depths.now i 0 }
 {
-    if i < depths.len() {
-        return depths[i];
-    }
-    0
+    depths.get(i).copied().unwrap_or(0)
 }
 
 // The depths of the top node of so many waiting.
@@ -208,16 +214,10 @@ pub fn top_depth(depths: &[u8], waiting: u32) -> Depths
 fn top_fits(pairs: u16, waiting: u32, depth: Depths) -> bool
     ensures { result ≡ top_fits pairs waiting depth }
 {
-    if waiting == 0 {
-        return true;
-    }
-    if waiting > pairs as u32 + (depth.first as u32 + depth.second as u32) {
-        return false;
-    }
-    if depth.first > 32 {
-        return false;
-    }
-    depth.second <= 32
+    waiting == 0
+        || waiting <= pairs as u32 + (depth.first as u32 + depth.second as u32)
+            && depth.first <= 32
+            && depth.second <= 32
 }
 
 // Whether the nodes settled by box, plane and line are all that were settled.
@@ -231,38 +231,30 @@ fn tags_sum(settled: u32, boxes: u32, planes: u32, lines: u32) -> bool
 pub fn is_search(t: Tally, depth: Depths) -> bool
     ensures { result ≡ search_with t depth }
 {
-    if !top_fits(t.pairs, t.waiting, depth) {
-        return false;
-    }
     let splits = t.splits as u64;
     let settled = t.settled as u64;
     let given = t.given as u64;
     let waiting = t.waiting as u64;
-    if t.pairs as u64 + splits != settled + given + waiting {
-        return false;
-    }
-    if splits + t.unspent as u64 != allowance(t) as u64 {
-        return false;
-    }
-    if !tags_sum(t.settled, t.boxes, t.planes, t.lines) {
-        return false;
-    }
-    t.visits <= splits + settled + given + 1
+    top_fits(t.pairs, t.waiting, depth)
+        && t.pairs as u64 + splits == settled + given + waiting
+        && splits + t.unspent as u64 == allowance(t) as u64
+        && tags_sum(t.settled, t.boxes, t.planes, t.lines)
+        && t.visits <= splits + settled + given + 1
 }
 
 // What a step or the own verdict finds on top, the slices lent to it being long enough or not: 20, then 19, else the top node.
-pub fn top_node(t: Tally, room: bool, depths: &[u8]) -> Top
+pub fn top_node(t: Tally, room: bool, depths: &[u8]) -> Result<Top, StepError>
     ensures { result ≡ top_of t room depths.now }
 {
     if ended(t) {
-        return Top::Ended;
-    }
-    if !room {
-        return Top::NoRoom;
+        return Err(StepError::Ended);
     }
     let depth = top_depth(depths, t.waiting);
-    if !is_search(t, depth) {
-        return Top::NoRoom;
+    if !(room && is_search(t, depth)) {
+        return Err(StepError::NoRoom);
     }
-    Top::Node(t.waiting - 1, depth)
+    Ok(Top {
+        place: t.waiting - 1,
+        depth,
+    })
 }

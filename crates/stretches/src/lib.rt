@@ -14,63 +14,38 @@ use terms::Seam;
 fn at_ends(a0: f64, lo: f64, b1: f64, hi: f64) -> bool
     ensures { result ≡ (eq a0 lo && eq b1 hi) }
 {
-    if a0 == lo {
-        return b1 == hi;
-    }
-    false
+    a0 == lo && b1 == hi
 }
 
 // Whether two ranges meet over the seam: one starts at the asked lo while the other ends at the asked hi.
 fn over_seam(s: Seam, a0: f64, a1: f64, b0: f64, b1: f64) -> bool
     ensures { result ≡ over_seam s a0 a1 b0 b1 }
 {
-    if s.whole {
-        if at_ends(a0, s.lo, b1, s.hi) {
-            return true;
-        }
-        return at_ends(b0, s.lo, a1, s.hi);
-    }
-    false
+    s.whole && (at_ends(a0, s.lo, b1, s.hi) || at_ends(b0, s.lo, a1, s.hi))
 }
 
 // Whether two ranges of one line meet plainly or over the seam.
 fn near_on(s: Seam, a0: f64, a1: f64, b0: f64, b1: f64) -> bool
     ensures { result ≡ near_on s a0 a1 b0 b1 }
 {
-    if regions::meet(a0, a1, b0, b1) {
-        return true;
-    }
-    over_seam(s, a0, a1, b0, b1)
+    regions::meet(a0, a1, b0, b1) || over_seam(s, a0, a1, b0, b1)
 }
 
 // Whether two regions are neighbours: on each line their ranges meet plainly or over the seam.
 fn neighbours(s1: Seam, s2: Seam, a: Region, b: Region) -> bool
     ensures { result ≡ neighbours_of s1 s2 a b }
 {
-    if near_on(s1, a.a0, a.a1, b.a0, b.a1) {
-        return near_on(s2, a.b0, a.b1, b.b0, b.b1);
-    }
-    false
-}
-
-// A mark after `from` became `to`.
-fn lowered(m: u32, from: u32, to: u32) -> u32
-    ensures { result ≡ cond (eqb m from) to m }
-{
-    if m == from {
-        return to;
-    }
-    m
+    near_on(s1, a.a0, a.a1, b.a0, b.a1) && near_on(s2, a.b0, a.b1, b.b0, b.b1)
 }
 
 // Each `from` becomes `to`.
 fn lower(marks: &mut [u32], from: u32, to: u32)
     ensures { marks.new ≡ relabel from to marks.old }
 {
-    let mut k = 0usize;
-    while k < marks.len() {
-        marks[k] = lowered(marks[k], from, to);
-        k += 1;
+    for m in marks.iter_mut() {
+        if *m == from {
+            *m = to;
+        }
     }
 }
 
@@ -101,9 +76,7 @@ fn mark_row(s1: Seam, s2: Seam, out: &[f64], i: usize, marks: &mut [u32])
     ensures { marks.new ≡ row_marks (near_in s1 s2 out.now) i i marks.old }
 {
     let r = regions::load(out, i);
-    let mut j = i;
-    while j > 0 {
-        j -= 1;
+    for j in (0..i).rev() {
         if neighbours(s1, s2, r, regions::load(out, j)) {
             link(marks, i, j);
         }
@@ -115,10 +88,8 @@ fn number(marks: &mut [u32])
     requires { length marks.old ≤ 4294967295 }
     ensures { marks.new ≡ count_from 0 (length marks.old) }
 {
-    let mut k = 0usize;
-    while k < marks.len() {
+    for k in 0..marks.len() {
         marks[k] = k as u32;
-        k += 1;
     }
 }
 
@@ -128,9 +99,7 @@ fn mark_all(s1: Seam, s2: Seam, out: &[f64], marks: &mut [u32])
     ensures { marks.new ≡ marks_of (length marks.old) (near_in s1 s2 out.now) }
 {
     number(marks);
-    let mut i = marks.len();
-    while i > 0 {
-        i -= 1;
+    for i in (0..marks.len()).rev() {
         mark_row(s1, s2, out, i, marks);
     }
 }
@@ -140,6 +109,5 @@ pub fn mark(s1: Seam, s2: Seam, out: &[f64], n: usize, marks: &mut [u32])
     requires { (n ≤ 4294967295) × (n * 10 ≤ length out.now) × (n ≤ length marks.old) }
     ensures { marks.new ≡ patch marks.old 0 (marks_of n (near_in s1 s2 out.now)) }
 {
-    let from = 0usize;
-    mark_all(s1, s2, out, &mut marks[from..n]);
+    mark_all(s1, s2, out, &mut marks[..n]);
 }

@@ -2,7 +2,9 @@
 #![tactic(auto)]
 
 ghost use Rattle.std.specs.Prelude.{◌≡◌};
-ghost use Rattle.terms.specs.Terms.{seam_of1, seam_of2};
+ghost use Rattle.terms.specs.Terms.{seam_of};
+
+use verdicts::Side;
 
 // Whether each line is closed and asked for a whole turn, and the asked ends.
 #[derive(Clone, Copy)]
@@ -15,7 +17,7 @@ pub struct Terms {
     pub hi2: f64,
 }
 
-// One line's seam: whether there is one, and the ends that meet there.
+// One line's seam: whether there is one, and the ends that meet there. No Option: the asked ends are said of a line without a seam too.
 #[derive(Clone, Copy)]
 pub struct Seam {
     pub whole: bool,
@@ -23,24 +25,20 @@ pub struct Seam {
     pub hi: f64,
 }
 
-// The first line's seam.
-pub fn seam1(t: Terms) -> Seam
-    ensures { result ≡ seam_of1 t }
+// A line's seam.
+pub fn seam_on(t: Terms, line: Side) -> Seam
+    ensures { result ≡ seam_of line t }
 {
-    Seam {
-        whole: t.turn1,
-        lo: t.lo1,
-        hi: t.hi1,
-    }
-}
-
-// The second line's seam.
-pub fn seam2(t: Terms) -> Seam
-    ensures { result ≡ seam_of2 t }
-{
-    Seam {
-        whole: t.turn2,
-        lo: t.lo2,
-        hi: t.hi2,
+    match line {
+        Side::First => Seam {
+            whole: t.turn1,
+            lo: t.lo1,
+            hi: t.hi1,
+        },
+        Side::Second => Seam {
+            whole: t.turn2,
+            lo: t.lo2,
+            hi: t.hi2,
+        },
     }
 }

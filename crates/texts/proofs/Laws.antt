@@ -1,6 +1,6 @@
 -- Laws of digits, of decimals and of the patterns of floats, and what one turn of each loop does. Assumes nothing.
-use mathlib.Core.Path.{◌≡◌, refl, sym, ap, ◌∙◌, subst}
-use mathlib.Core.Bool.{false, not}
+use mathlib.Core.Path.{◌≡◌, refl, sym, ap, ◌∙◌}
+use mathlib.Core.Bool.{cond}
 use mathlib.Core.List.{List, [], ◌∷◌, ◌++◌, append_assoc}
 use Prim.Native.Nat.{ℕ, zero, suc, ◌+◌, ◌*◌, ◌-◌, ◌/◌, ◌%◌, ◌^◌, ◌≤◌, ◌<◌}
 use mathlib.Core.Logic.{dite}
@@ -8,22 +8,14 @@ use native.Mathlib.Decide.{dec_le}
 use native.Mathlib.Nat.{lt_of_lt_of_le, add-zero, pow-suc}
 use native.Mathlib.Numerals.{add-one}
 use native.Mathlib.Omega.{arith}
-use lib.Dec.{T, lit≤}
-use lib.ListN.{length, get_or, set, length-append, length-set, take-append-drop}
-use lib.Seq.{drop-cons, drop-set-lt, take-set-le, get_or-set_same, paste, paste-suc, take-length, set_split}
-use lib.Ieee.{Float, nan, inf, fin, is_nan, ne}
+use lib.Dec.{lit≤}
+use lib.ListN.{length, set, length-append, length-set, take-append-drop}
+use lib.Seq.{drop-cons, drop-set-lt, take-set-le, get_or-set_same, set_split}
+use lib.Ieee.{Float, nan, inf, fin, is_nan, binary64, to_bits}
 use borrow.Author.Tests.{lt-ltb, le-ltb}
 use Rattle.lists.specs.Parts.{patch}
 use Rattle.lists.proofs.Parts.{patch_twice}
 use Rattle.texts.specs.Texts.{hex_digit, digits_of, places_in, decimal_of, hex_of, bits_of, float_text}
-
--- ---- a text copied in, byte by byte
-pub copy_turn : {s : List ℕ} (out : List ℕ) (at : ℕ) (text : List ℕ) (i : ℕ) → s ≡ paste out at text i → at + i < length out → i < length text
-    → set s (at + i) (get_or text i 0) ≡ paste out at text (i + 1)
-copy_turn out at text i e h k = rw (e, add-one) (paste-suc out at text i 0 h k)
-
-pub copied : (out : List ℕ) (at : ℕ) (text : List ℕ) (i : ℕ) {s : List ℕ} → i ≡ length text → s ≡ paste out at text i → s ≡ patch out at text
-copied out at text i e h = h ∙ rw (e, take-length text, append_assoc) refl
 
 -- ---- digits, from the last one on
 pub digits_length : (base k n : ℕ) → length (digits_of base k n) ≡ k
@@ -127,15 +119,9 @@ float_is out at n x h e f =
     f ∙ ap (λ z. patch z (at + 1) (digits_of 16 16 n)) one ∙ patch_twice out at (at + 1) (32 ∷ []) (digits_of 16 16 n) refl (omega arith)
     ∙ ap (λ (m : ℕ). patch out at (32 ∷ digits_of 16 16 m)) e
 
--- ---- patterns
-pub same_not_nan : (x : Float) → ne x x ≡ false → T (not (is_nan x))
-unfolding ne is_nan
-same_not_nan nan h = absurd (subst T h tt)
-same_not_nan (inf s) h = tt
-same_not_nan (fin s m e) h = tt
-
-pub not_nan : (x : Float) → ne x x ≡ false → is_nan x ≡ false
-unfolding ne is_nan
-not_nan nan h = absurd (subst T h tt)
-not_nan (inf s) h = refl
-not_nan (fin s m e) h = refl
+-- ---- patterns: a NaN's is the quiet one of positive sign
+pub pattern_of : (x : Float) → cond (is_nan x) 0x7ff8_0000_0000_0000 (to_bits binary64 x) ≡ to_bits binary64 x
+unfolding is_nan to_bits
+pattern_of nan = refl
+pattern_of (inf s) = refl
+pattern_of (fin s m e) = refl

@@ -9,14 +9,12 @@ pub fn put_bytes(out: &mut [u8], at: usize, text: &[u8]) -> usize
     requires { at + length text.now ≤ length out.old }
     ensures { Wrote out.old at text.now out.new result }
 {
-    let mut i = 0usize;
-    while i < text.len() {
-        out[at + i] = text[i];
-        i += 1;
-    }
-    at + text.len()
+    let end = at + text.len();
+    out[at..end].copy_from_slice(text);
+    end
 }
 
+#[tactic(auto, unfolding(crate::specs::Texts::hex_digit))]
 fn hex_digit(d: u64) -> u8
     requires { d < 16 }
     ensures { result ≡ hex_digit d }
@@ -34,9 +32,7 @@ fn put_digits(out: &mut [u8], at: usize, base: u64, k: usize, n: u64)
     ensures { out.new ≡ patch out.old at (digits_of base k n) }
 {
     let mut left = n;
-    let mut i = at + k;
-    while i > at {
-        i -= 1;
+    for i in (at..at + k).rev() {
         out[i] = hex_digit(left % base);
         left = left / base;
     }
@@ -48,6 +44,7 @@ fn places(n: u64) -> usize
 {
     let mut left = n;
     let mut k = 1usize;
+    // By `while`: the number of rounds is what is counted.
     while left >= 10 {
         left = left / 10;
         k += 1;
@@ -71,10 +68,7 @@ fn bits(x: f64) -> u64
     if x == 0.0 {
         return 0;
     }
-    if x != x {
-        return 0x7ff8_0000_0000_0000;
-    }
-    f64::to_bits(x)
+    patterns::pattern(x)
 }
 
 // A space and sixteen hexadecimal digits.

@@ -12,7 +12,11 @@ use Rattle.lists.specs.Members.{All}
 use Rattle.lists.specs.Tests.{each_two}
 use Rattle.lists.proofs.Members.{all_append, all_map}
 use Rattle.floats.specs.Floats.{zero64, within}
-use Rattle.lines.specs.Admit.{admit_of, two24}
+use Rattle.std.specs.Prelude.{Result, Ok, Err}
+use Rattle.std.proofs.lemmas.Bool.{not-true}
+use Rattle.coverage.proofs.Opening.{all_same}
+use Rattle.lines.specs.declared.LineError.{LineError}
+use Rattle.lines.specs.Admit.{line_error_number, admit_of, two24}
 use Rattle.knots.specs.Knots.{bounds_of, breaks_of}
 use Rattle.questions.specs.Questions.{range_fits, parted}
 use Rattle.lines.specs.Lines.{Question}
@@ -20,15 +24,16 @@ use Rattle.facts.specs.Faults.{Fault15, Fault18}
 use Rattle.facts.proofs.Facts.{line_table}
 use Rattle.facts.proofs.Reflect.{Tests, of_lt}
 use Rattle.facts.proofs.Questions.{test15, test16, test18}
+use Rattle.states.specs.declared.State.{State}
 use Rattle.states.specs.States.{sizes, needed, enough}
-use Rattle.opening.specs.declared.Opened.{Opened}
-use Rattle.opening.specs.declared.Opened.TheVariants.{Open, NoRoom}
-use Rattle.opening.specs.Opens.{is_admitted, opened_number, pieces_fit}
+use Rattle.opening.specs.declared.OpenError.{OpenError}
+use Rattle.opening.specs.declared.OpenError.TheVariants.{NoRoom}
+use Rattle.opening.specs.Opens.{opened_number, pieces_fit}
 use Rattle.walks.specs.Sheets.{ChartLine, Chart}
 use Rattle.sheet.specs.Answers.{zeros, lent, opened_on}
-use Rattle.charts.specs.Charts.{Tested, tested, pair_for, first_met, line_number, Row, of_count, of_line, of_datum, of_range, of_gap, of_splits, of_breaks, of_room, each_line, order, test_of, tests}
+use Rattle.charts.specs.Charts.{Tested, tested, pair_for, first_met, Row, of_count, of_line, of_datum, of_range, of_gap, of_splits, of_breaks, of_room, each_line, order, test_of, tests}
 use Rattle.whole.specs.Refusals.{OneOf, Numbered, GoodLine, GoodData, GoodQuestion, Short, Faultless, Meets, Unmet, FirstOf}
-use Rattle.whole.proofs.Tests.{x, data_test, line_numbers, line_number_lem, line_above, not_zero, over_zero, fault_refused, refused_fault, admitted_good, good_admitted, fault_off, off_fault, one_good, good_one, good_fine, tested_as}
+use Rattle.whole.proofs.Tests.{x, data_test, line_numbers, line_number_lem, line_above, not_zero, over_zero, refused_number, numbered_fault, refused_fault, admitted_good, good_admitted, fault_off, off_fault, one_good, good_one, good_fine, tested_as}
 
 all_parts : {A : Type 0} (P : A → Type 0) (l r : List A) → All P (l ++ r) → All P l × All P r
 all_parts P [] r h = (tt, h)
@@ -134,25 +139,21 @@ module _ (c : Chart) where
   line_agrees : (k : ℕ) (l : ChartLine) → Agrees (of_line k l)
   line_agrees k l =
       record {
-        found = λ n place m. (line_above n l.line m.1.0, (λ i. tested ((fault_refused l.line n m.1).0 i) (sym m.0 i)));
-        meets = λ h. (refl, refused_fault l.line (not_zero (line_number l) h));
+        found = λ n place m. (line_above n l.line m.1.0, (λ i. tested (refused_number l.line n m.1 i) (sym m.0 i)));
+        meets = λ h. (refl, numbered_fault l.line h);
       }
 
   line_good : (k : ℕ) (l : ChartLine) → Unmet c (of_line k l) → GoodLine l.line
-  line_good k l u = go (is_admitted (admit_of l.line)) refl
+  line_good k l u = go (admit_of l.line) refl
     where
-      go : (b : Bool) → is_admitted (admit_of l.line) ≡ b → GoodLine l.line
-      go true e = admitted_good l.line e
-      go false e = absurd (u (line_number l) k (refl, refused_fault l.line e))
+      go : (r : Result Unit LineError) → admit_of l.line ≡ r → GoodLine l.line
+      go (Ok x) e = admitted_good l.line e
+      go (Err f) e = absurd (u (line_error_number f) k (refl, refused_fault l.line f e))
 
   datum_agrees : (k : ℕ) (l : ChartLine) → Agrees (of_datum k l)
   datum_agrees k l =
-      let z = by_test (data_test (pair_for c l)) 23 k (lit< tt) (record { yes = λ e. off_fault (pair_for c l) (sym (not_not _) ∙ ap not e); holds = λ f. ap not (fault_off (pair_for c l) f) }) in
+      let z = by_test (data_test (pair_for c l)) 23 k (lit< tt) (record { yes = λ e. off_fault (pair_for c l) (not-true _ e); holds = λ f. ap not (fault_off (pair_for c l) f) }) in
       record { found = z.0; meets = z.1 }
-    where
-      not_not : (b : Bool) → not (not b) ≡ b
-      not_not true = refl
-      not_not false = refl
 
   datum_good : (k : ℕ) (l : ChartLine) → Unmet c (of_datum k l) → GoodData (pair_for c l)
   datum_good k l u = go (data_test (pair_for c l)) refl
@@ -198,12 +199,12 @@ module _ (c : Chart) where
     abbrev q : Question
     q = pair_for c l
 
-    opens : {a b : Bool} → pieces_fit q (zeros 8112) (zeros 8112) ≡ a → enough (needed (x q)) (sizes lent) ≡ b → opened_on q ≡ cond a (cond b (Open (x q)) NoRoom) NoRoom
+    opens : {a b : Bool} → pieces_fit q (zeros 8112) (zeros 8112) ≡ a → enough (needed (x q)) (sizes lent) ≡ b → opened_on q ≡ cond a (cond b (Ok (x q)) (Err NoRoom)) (Err NoRoom)
     unfolding opened_on
     opens ea eb = tested_as q (good_admitted q.line1 r.0) (good_admitted q.line2 r.1) (good_one q r.2) (good_fine q r.0 r.1 r.3) ea eb
 
-    number : {o : Opened} → opened_on q ≡ o → not (eqb (opened_number (opened_on q)) 0) ≡ not (eqb (opened_number o) 0)
-    number e = ap (λ (o : Opened). not (eqb (opened_number o) 0)) e
+    number : {o : Result State OpenError} → opened_on q ≡ o → not (eqb (opened_number (opened_on q)) 0) ≡ not (eqb (opened_number o) 0)
+    number e = ap (λ (o : Result State OpenError). not (eqb (opened_number o) 0)) e
 
     short : (a : Bool) → pieces_fit q (zeros 8112) (zeros 8112) ≡ a → (b : Bool) → enough (needed (x q)) (sizes lent) ≡ b → Tests (Short q) (not (eqb (opened_number (opened_on q)) 0))
     short true ea true eb =
@@ -260,19 +261,15 @@ module _ (c : Chart) where
       (all_both (λ l. GoodLine l.line × GoodData (pair_for c l)) (λ l. (Fault15 l.line l.lo l.hi → ⊥) × (Fault18 l.line l.lo l.hi → ⊥)) c.lines lines
       (all_both (λ l. Fault15 l.line l.lo l.hi → ⊥) (λ l. Fault18 l.line l.lo l.hi → ⊥) c.lines ranges breaks))
 
-  any_line : (ls : List ChartLine) → All (λ (l : ChartLine). Unit {0}) ls
-  any_line [] = tt
-  any_line (l ∷ ls) = (tt, any_line ls)
-
   in_order : Sound (order c)
   in_order =
       in_append {xs = of_count ∷ of_line 1 c.track ∷ []} (record { turn = (count_agrees, λ u. (line_agrees 1 c.track, λ v. tt)) }) (λ a.
-      in_append (in_each asked (λ l. Unit {0}) (λ k l q. (line_agrees k l, λ u. (datum_agrees k l, λ v. tt))) c.lines 2 (any_line c.lines)) (λ b.
+      in_append (in_each asked (λ l. Unit {0}) (λ k l q. (line_agrees k l, λ u. (datum_agrees k l, λ v. tt))) c.lines 2 (all_same (λ (l : ChartLine). Unit {0}) (λ l. tt) c.lines)) (λ b.
       in_append {xs = of_range 1 c.track ∷ []} (record { turn = (range_agrees 1 c.track (line_good 1 c.track a.1.0), λ u. tt) }) (λ d.
       in_append (in_each (λ k l. of_range k l ∷ []) (λ l. GoodLine l.line) (λ k l g. (range_agrees k l g, λ u. tt)) c.lines 2
       (each_all (Unmet c) asked (λ l. GoodLine l.line) (λ k l h. line_good k l h.0) c.lines 2 b)) (λ e.
       in_append {xs = of_gap ∷ of_splits ∷ of_breaks 1 c.track ∷ []} (record { turn = (gap_agrees, λ u. (splits_agrees, λ v. (breaks_agrees 1 c.track, λ w. tt))) }) (λ f.
-      in_append (in_each (λ k l. of_breaks k l ∷ []) (λ l. Unit {0}) (λ k l q. (breaks_agrees k l, λ u. tt)) c.lines 2 (any_line c.lines)) (λ g.
+      in_append (in_each (λ k l. of_breaks k l ∷ []) (λ l. Unit {0}) (λ k l q. (breaks_agrees k l, λ u. tt)) c.lines 2 (all_same (λ (l : ChartLine). Unit {0}) (λ l. tt) c.lines)) (λ g.
       in_each (λ k l. of_room l ∷ []) Ready (λ k l r. (room_agrees l r, λ u. tt)) c.lines 2 (ready a b d e f g)))))))
 
   -- ---- what a chart meets

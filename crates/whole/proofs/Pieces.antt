@@ -1,7 +1,7 @@
 -- All floats that a sheet gives are doubles, so its pieces belong to their stretches. Assumes nothing.
-use mathlib.Core.Path.{◌≡◌, refl, sym, ap, ◌∙◌, subst}
+use mathlib.Core.Path.{subst}
 use mathlib.Core.List.{List, [], ◌∷◌}
-use mathlib.Core.Bool.{Bool, true, false, not, cond, false≢true}
+use mathlib.Core.Bool.{Bool, true, false, not, cond}
 use Prim.Native.Nat.{ℕ, zero, suc, ◌+◌}
 use borrow.Author.Tests.{not-false}
 use lib.Dec.{T, ltb, eqb}
@@ -9,17 +9,13 @@ use lib.ListN.{length}
 use lib.Ieee.{Float, binary64, fits}
 use lib.Ieee.Bits.{of_bits-fits}
 use Rattle.lists.specs.Members.{All}
-use Rattle.lists.specs.Tests.{each_two}
-use Rattle.floats.specs.Floats.{zero64, within}
 use Rattle.lines.specs.Lines.{Line, Question}
-use Rattle.lines.specs.Admit.{two24}
-use Rattle.knots.specs.Knots.{bounds_of, breaks_of}
-use Rattle.questions.specs.declared.Asked.{Asked as AskAnswer}
-use Rattle.questions.specs.declared.Asked.TheVariants.{RangeOutOfBounds, GapOutOfRange, TooManySplits, BreaksTooClose}
-use Rattle.questions.specs.Questions.{range_fits, parted, ask_within}
+use Rattle.verdicts.specs.declared.Side.TheVariants.{First, Second}
+use Rattle.questions.specs.declared.QuestionError.TheVariants.{RangeOutOfBounds, GapOutOfRange, TooManySplits, BreaksTooClose}
+use Rattle.questions.specs.Questions.{ask_within}
 use Rattle.facts.specs.Spans.{Doubles}
 use Rattle.facts.proofs.Facts.{line_table, question_table, pieces_in_spans}
-use Rattle.opening.specs.Opens.{is_fine}
+use Rattle.opening.proofs.Laws.{passed}
 use Rattle.walks.specs.Words.{word_at, kind_of, count_of, float_at, floats_from}
 use Rattle.walks.specs.Sheets.{ChartLine, Walked, walked, charted, refused_as, bad_length, bad_count, size_of, part_of, word_stands, weights_of, line_kind, line_after, line_stands, range_after, lines_after, closing, pair_of, chart_of, walk_of}
 use Rattle.charts.specs.Charts.{pair_for}
@@ -117,22 +113,17 @@ module _ (s : List ℕ) where
       by false w h = h
 
 -- a question that is fine has met no test
-next : (b : Bool) (a c : AskAnswer) → is_fine a ≡ false → is_fine (cond b a c) ≡ true → (b ≡ false) × (is_fine c ≡ true)
-next true a c h e = absurd (false≢true (sym h ∙ e))
-next false a c h e = (refl, e)
-
 pair-pieces : (q : Question) → Read (walked q) → Faultless q → PairPieces q
 unfolding ask_within
 pair-pieces q d f =
     let one = (line_table q.line1).1.1 f.first in
     let two = (line_table q.line2).1.1 f.second in
-    let fine = ap is_fine ((question_table q one two).1.1 f.question) in
-    let a = next (not (range_fits q.line1.closed (bounds_of q.line1) q.lo1 q.hi1)) (RangeOutOfBounds 1) _ refl fine in
-    let b = next (not (range_fits q.line2.closed (bounds_of q.line2) q.lo2 q.hi2)) (RangeOutOfBounds 2) _ refl a.1 in
-    let c = next (not (within zero64 two24 q.gap)) GapOutOfRange _ refl b.1 in
-    let g = next (ltb 256 q.splits) TooManySplits _ refl c.1 in
-    let h = next (not (each_two parted (breaks_of q.line1 q.lo1 q.hi1))) (BreaksTooClose 1) _ refl g.1 in
-    let i = next (not (each_two parted (breaks_of q.line2 q.lo2 q.hi2))) (BreaksTooClose 2) _ refl h.1 in (
+    let a = passed _ (RangeOutOfBounds First) _ ((question_table q one two).1.1 f.question) in
+    let b = passed _ (RangeOutOfBounds Second) _ a.1 in
+    let c = passed _ GapOutOfRange _ b.1 in
+    let g = passed _ TooManySplits _ c.1 in
+    let h = passed _ (BreaksTooClose First) _ g.1 in
+    let i = passed _ (BreaksTooClose Second) _ h.1 in (
       pieces_in_spans q.line1 q.lo1 q.hi1 (λ x. d.0) one (not-false _ a.0) (not-false _ h.0),
       pieces_in_spans q.line2 q.lo2 q.hi2 (λ x. d.1) two (not-false _ b.0) (not-false _ i.0),
     )

@@ -9,27 +9,29 @@ use native.Mathlib.Omega.{arith}
 use lib.Dec.{ltb, eqb, lit<}
 use lib.ListN.{length}
 use lib.Ieee.{Float}
+use Rattle.std.specs.Prelude.{Option, Some, None, Result, Ok, Err}
 use Rattle.lists.specs.Members.{All}
-use Rattle.lines.specs.Admit.{admission_number, admit_of}
+use Rattle.verdicts.specs.declared.Side.{Side}
+use Rattle.lines.specs.declared.LineError.{LineError}
+use Rattle.lines.specs.Admit.{line_error_number, admit_of}
 use Rattle.lines.specs.Lines.{Line, Question}
 use Rattle.lines.specs.Data.{one_datum}
-use Rattle.questions.specs.declared.Asked.{Asked as AskAnswer}
-use Rattle.questions.specs.declared.Asked.TheVariants.{Fine, RangeOutOfBounds, GapOutOfRange, TooManySplits, BreaksTooClose}
-use Rattle.questions.specs.Questions.{asked_number, ask_of}
-use Rattle.facts.specs.Faults.{asked_place, LineFault, FirstLineFault, QuestionFault, FirstQuestionFault}
+use Rattle.questions.specs.declared.QuestionError.{QuestionError}
+use Rattle.questions.specs.Questions.{question_error_number, question_error_line, ask_of}
+use Rattle.facts.specs.Faults.{admit_number, asked_number, asked_line, side_place, asked_place, LineFault, FirstLineFault, QuestionFault, FirstQuestionFault}
 use Rattle.facts.proofs.Facts.{line_table, data_table, question_table}
 use Rattle.states.specs.declared.State.{State}
-use Rattle.states.specs.States.{Memory, sizes, needed, enough}
-use Rattle.opening.specs.declared.Opened.{Opened}
-use Rattle.opening.specs.declared.Opened.TheVariants.{Open, BadLine, BadDatum, BadQuestion, NoRoom}
+use Rattle.states.specs.States.{sizes, needed, enough, refusal_number}
+use Rattle.opening.specs.declared.OpenError.{OpenError}
 use Rattle.opening.specs.Asked.{start, state_of}
-use Rattle.opening.specs.Opens.{search_for, is_admitted, is_fine, pieces_fit, open_def}
-use Rattle.opening.proofs.Laws.{is_admitted_lem}
+use Rattle.opening.specs.Opens.{FaultNumber, line_number, open_error_number, open_error_line, search_for, pieces_fit, open_def}
+use Rattle.opening.proofs.Numbers.{bad_line, bad_question}
 use Rattle.walks.specs.Words.{word_at, kind_of, count_of}
 use Rattle.walks.specs.Sheets.{ChartLine, Walked, walked, charted, refused_as, bad_length, bad_count, size_of, part_of, word_stands, weights_of, line_kind, line_after, line_stands, range_after, lines_after, closing, walk_of}
+use Rattle.printing.specs.Printed.{refusal_line}
 use Rattle.sheet.specs.Answers.{zeros, lent, opened_text, lines_text, opened_on, lent_output}
 use Rattle.charts.specs.Answers.{walked_text, answer_of}
-use Rattle.charts.proofs.First.{opened_by_lem}
+use Rattle.charts.proofs.First.{opens, opened_by_lem}
 use Rattle.whole.specs.Refusals.{OneOf, DatumFault, GoodLine, GoodData, GoodQuestion}
 
 -- ---- the walk refuses with 1, 2 or 3
@@ -164,19 +166,36 @@ over_zero zero e = absurd (false≢true (sym e))
 over_zero (suc n) e = omega arith
 
 -- ---- the tests, from the table's words and back
-pub good_admitted : (l : Line) → GoodLine l → is_admitted (admit_of l) ≡ true
-good_admitted l g = ap is_admitted ((line_table l).1.1 g)
+above : {n : ℕ} → FaultNumber n → 0 < n
+above (inl h) = omega (arith, h.0)
+above (inr h) = omega (arith, h.0)
 
-pub admitted_good : (l : Line) → is_admitted (admit_of l) ≡ true → GoodLine l
-admitted_good l e = (line_table l).1.0 (is_admitted_lem (admit_of l) e)
+pub good_admitted : (l : Line) → GoodLine l → admit_of l ≡ Ok tt
+good_admitted l g = (line_table l).1.1 g
 
-pub fault_refused : (l : Line) (n : ℕ) → FirstLineFault n l → (admission_number (admit_of l) ≡ n) × (is_admitted (admit_of l) ≡ false)
-fault_refused l n f =
-    let e = ((line_table l).0 n (line_above n l f.0)).1 f in
-    (e, ap (λ (k : ℕ). eqb k 0) e ∙ not_zero n (line_above n l f.0))
+pub admitted_good : (l : Line) → admit_of l ≡ Ok tt → GoodLine l
+admitted_good l e = (line_table l).1.0 e
 
-pub refused_fault : (l : Line) → is_admitted (admit_of l) ≡ false → FirstLineFault (admission_number (admit_of l)) l
-refused_fault l e = ((line_table l).0 (admission_number (admit_of l)) (over_zero (admission_number (admit_of l)) e)).0 refl
+pub fault_refused : (l : Line) (n : ℕ) → FirstLineFault n l → (k : LineError) × ((admit_of l ≡ Err k) × (line_error_number k ≡ n))
+fault_refused l n f = let a = line_above n l f.0 in go (admit_of l) refl a (((line_table l).0 n a).1 f)
+  where
+    go : (r : Result Unit LineError) → admit_of l ≡ r → 0 < n → admit_number r ≡ n → (k : LineError) × ((admit_of l ≡ Err k) × (line_error_number k ≡ n))
+    go (Ok x) h a e = absurd (omega (arith, a, e))
+    go (Err k) h a e = (k, (h, e))
+
+pub refused_fault : (l : Line) (k : LineError) → admit_of l ≡ Err k → FirstLineFault (line_error_number k) l
+refused_fault l k e = ((line_table l).0 (line_error_number k) (above (bad_line k))).0 (ap admit_number e)
+
+-- the same by the number alone, as a chart's test of a line gives it
+admitted_number : (r : Result Unit LineError) → admit_number r ≡ refusal_number line_error_number r
+admitted_number (Ok x) = refl
+admitted_number (Err k) = refl
+
+pub refused_number : (l : Line) (n : ℕ) → FirstLineFault n l → refusal_number line_error_number (admit_of l) ≡ n
+refused_number l n f = sym (admitted_number (admit_of l)) ∙ ((line_table l).0 n (line_above n l f.0)).1 f
+
+pub numbered_fault : (l : Line) → 0 < refusal_number line_error_number (admit_of l) → FirstLineFault (refusal_number line_error_number (admit_of l)) l
+numbered_fault l h = ((line_table l).0 (refusal_number line_error_number (admit_of l)) h).0 (admitted_number (admit_of l))
 
 -- two data, from the row's words and back
 abbrev pub data_test : Question → Bool
@@ -194,31 +213,36 @@ fault_off q f = (data_table q.line1.datum q.line2.datum).0.1 f
 pub off_fault : (q : Question) → data_test q ≡ false → DatumFault q
 off_fault q e = (data_table q.line1.datum q.line2.datum).0.0 e
 
-is_fine_lem : (a : AskAnswer) → is_fine a ≡ true → a ≡ Fine
-is_fine_lem Fine e = refl
-is_fine_lem (RangeOutOfBounds line) e = absurd (false≢true e)
-is_fine_lem GapOutOfRange e = absurd (false≢true e)
-is_fine_lem TooManySplits e = absurd (false≢true e)
-is_fine_lem (BreaksTooClose line) e = absurd (false≢true e)
+-- the line at fault by its number, 0 for none
+place_lem : (side : Option Side) → side_place side ≡ line_number side
+place_lem (Some side) = refl
+place_lem None = refl
+
+abbrev pub place_of : QuestionError → ℕ × ℕ
+place_of k = (question_error_number k, line_number (question_error_line k))
+
+error_place : (k : QuestionError) → (asked_number (Err k), asked_line (Err k)) ≡ place_of k
+error_place k = λ i. (question_error_number k, place_lem (question_error_line k) i)
 
 module _ (q : Question) (g : GoodLine q.line1) (h : GoodLine q.line2) where
-  table : ((n : ℕ × ℕ) → 0 < n.0 → (asked_place q ≡ n) ↔ FirstQuestionFault n q) × ((ask_of q ≡ Fine) ↔ GoodQuestion q)
-  table = question_table q ((line_table q.line1).1.1 g) ((line_table q.line2).1.1 h)
+  table : ((n : ℕ × ℕ) → 0 < n.0 → (asked_place q ≡ n) ↔ FirstQuestionFault n q) × ((ask_of q ≡ Ok tt) ↔ GoodQuestion q)
+  table = question_table q (good_admitted q.line1 g) (good_admitted q.line2 h)
 
-  pub good_fine : GoodQuestion q → is_fine (ask_of q) ≡ true
-  good_fine f = ap is_fine (table.1.1 f)
+  pub good_fine : GoodQuestion q → ask_of q ≡ Ok tt
+  good_fine f = table.1.1 f
 
-  pub fine_good : is_fine (ask_of q) ≡ true → GoodQuestion q
-  fine_good e = table.1.0 (is_fine_lem (ask_of q) e)
+  pub fine_good : ask_of q ≡ Ok tt → GoodQuestion q
+  fine_good e = table.1.0 e
 
-  pub fault_asked : (n : ℕ × ℕ) → FirstQuestionFault n q → (asked_place q ≡ n) × (is_fine (ask_of q) ≡ false)
-  fault_asked n f =
-      let a = question_above n q f.0 in
-      let e = (table.0 n a).1 f in
-      (e, ap (λ (m : ℕ × ℕ). eqb m.0 0) e ∙ not_zero n.0 a)
+  pub fault_asked : (n : ℕ × ℕ) → FirstQuestionFault n q → (k : QuestionError) × ((ask_of q ≡ Err k) × (place_of k ≡ n))
+  fault_asked n f = let a = question_above n q f.0 in go (ask_of q) refl a ((table.0 n a).1 f)
+    where
+      go : (r : Result Unit QuestionError) → ask_of q ≡ r → 0 < n.0 → (asked_number r, asked_line r) ≡ n → (k : QuestionError) × ((ask_of q ≡ Err k) × (place_of k ≡ n))
+      go (Ok x) h a e = absurd (let z : ◌≡◌ {A = ℕ} 0 n.0 = ap (λ (p : ℕ × ℕ). p.0) e in omega (arith, a, z))
+      go (Err k) h a e = (k, (h, sym (error_place k) ∙ e))
 
-  pub asked_fault : is_fine (ask_of q) ≡ false → FirstQuestionFault (asked_place q) q
-  asked_fault e = (table.0 (asked_place q) (over_zero (asked_number (ask_of q)) e)).0 refl
+  pub asked_fault : (k : QuestionError) → ask_of q ≡ Err k → FirstQuestionFault (place_of k) q
+  asked_fault k e = (table.0 (place_of k) (above (bad_question k))).0 ((λ i. (asked_number (e i), asked_line (e i))) ∙ error_place k)
 
 -- ---- the opening on the lent memory, by its tests
 module _ (q : Question) where
@@ -228,21 +252,13 @@ module _ (q : Question) where
   abbrev pub x : State
   x = state_of (search_for q) (start (search_for q))
 
-  abbrev pub by_tests : Bool → Bool → Bool → Bool → Bool → Bool → Opened
-  by_tests a b n c d e =
-      cond a (cond b (cond n (cond c (cond d (cond e (Open x) NoRoom) NoRoom) (BadQuestion (ask_of q))) BadDatum) (BadLine 2 (admit_of q.line2))) (BadLine 1 (admit_of q.line1))
-
-  tested : (open_def q z z lent).answer
-      ≡ by_tests (is_admitted (admit_of q.line1)) (is_admitted (admit_of q.line2)) (data_test q) (is_fine (ask_of q)) (pieces_fit q z z) (enough (needed x) (sizes lent))
+  pub tested_as : {a b : Result Unit LineError} {n : Bool} {c : Result Unit QuestionError} {d e : Bool} → admit_of q.line1 ≡ a → admit_of q.line2 ≡ b → data_test q ≡ n → ask_of q ≡ c
+      → pieces_fit q z z ≡ d → enough (needed x) (sizes lent) ≡ e → (open_def q z z lent).answer ≡ opens x a b n c d e
   unfolding opened_on
-  tested = opened_by_lem q
+  tested_as ea eb en ec ed ee = opened_by_lem q ∙ (λ i. opens x (ea i) (eb i) (en i) (ec i) (ed i) (ee i))
 
-  pub tested_as : {a b n c d e : Bool} → is_admitted (admit_of q.line1) ≡ a → is_admitted (admit_of q.line2) ≡ b → data_test q ≡ n → is_fine (ask_of q) ≡ c → pieces_fit q z z ≡ d
-      → enough (needed x) (sizes lent) ≡ e → (open_def q z z lent).answer ≡ by_tests a b n c d e
-  tested_as ea eb en ec ed ee = tested ∙ (λ i. by_tests (ea i) (eb i) (en i) (ec i) (ed i) (ee i))
-
-  -- what is printed for an answer that is no open search
-  pub said : (s : List ℕ) → walk_of s ≡ walked q → (a : Opened) (l : List ℕ) → (open_def q z z lent).answer ≡ a
-      → ((m : Memory) → opened_text a m lent_output ≡ l) → answer_of s ≡ l
+  -- what is printed of a refused opening
+  pub said : (s : List ℕ) → walk_of s ≡ walked q → (k : OpenError) → (open_def q z z lent).answer ≡ Err k
+      → answer_of s ≡ refusal_line (open_error_number k) (line_number (open_error_line k))
   unfolding answer_of lines_text
-  said s walk a l e f = ap walked_text walk ∙ ap (λ (b : Opened). opened_text b (open_def q z z lent).memory lent_output) e ∙ f (open_def q z z lent).memory
+  said s walk k e = ap walked_text walk ∙ ap (λ (a : Result State OpenError). opened_text a (open_def q z z lent).memory lent_output) e

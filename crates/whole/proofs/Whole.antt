@@ -1,11 +1,13 @@
 -- Every sheet gets the refusal of its first fault, a report, or the reports of its chart. Assumes nothing.
 use mathlib.Core.Path.{◌≡◌, refl, sym, ap, ◌∙◌}
 use mathlib.Core.Logic.{◌↔◌}
-use mathlib.Core.Bool.{Bool, true, false, ◌&&◌, false≢true}
+use mathlib.Core.Bool.{true, ◌&&◌, false≢true}
 use mathlib.Core.List.{List, [], ◌∷◌}
 use Prim.Native.Nat.{ℕ, ◌*◌, ◌≤◌}
 use lib.ListN.{length, get_or, length-replicate}
 use native.Mathlib.Omega.{arith}
+use Rattle.std.specs.Prelude.{Result, Ok}
+use Rattle.std.proofs.lemmas.Bool.{and_parts}
 use Rattle.lists.specs.Members.{All}
 use Rattle.floats.specs.Floats.{zero64}
 use Rattle.lines.specs.Lines.{Question}
@@ -13,14 +15,13 @@ use Rattle.regions.specs.declared.Word.{Word}
 use Rattle.regions.specs.declared.Word.TheVariants.{Complete, Budget, Unseparated}
 use Rattle.states.specs.declared.State.{State}
 use Rattle.states.specs.States.{Memory, sizes, records_of}
-use Rattle.search.specs.declared.Stepped.{Stepped}
+use Rattle.states.specs.declared.StepError.{StepError}
 use Rattle.nodes.specs.Nets.{geometry}
 use Rattle.search.specs.Runs.{run_def}
-use Rattle.report.specs.declared.Reported.{Reported}
-use Rattle.report.specs.declared.Reported.TheVariants.{Told}
-use Rattle.report.specs.Reports.{report_def}
-use Rattle.opening.specs.declared.Opened.{Opened}
-use Rattle.opening.specs.declared.Opened.TheVariants.{Open}
+use Rattle.report.specs.declared.Summary.{Summary}
+use Rattle.report.specs.declared.ReportError.{ReportError}
+use Rattle.report.specs.Reports.{summary_of, report_def}
+use Rattle.opening.specs.declared.OpenError.{OpenError}
 use Rattle.opening.specs.Asked.{state_of}
 use Rattle.opening.specs.Opens.{search_for, Opening, open_def}
 use Rattle.coverage.specs.Complete.{looped, Clear}
@@ -38,7 +39,7 @@ use Rattle.whole.proofs.Charts.{Passed}
 use Rattle.whole.proofs.Refusals.{Met, faulty, opens, passes, opens_faultless, met, fault_numbered, fault_printed}
 
 -- ---- an open search: the loop ends, and its report is printed
-few_records : (q : Question) (x : State) → (open_def q (zeros 8112) (zeros 8112) lent).answer ≡ Open x → records_of x.tally * 10 ≤ length (zeros 8190)
+few_records : (q : Question) (x : State) → (open_def q (zeros 8112) (zeros 8112) lent).answer ≡ Ok x → records_of x.tally * 10 ≤ length (zeros 8190)
 few_records q x e =
     opened_fresh q (zeros 8112) (zeros 8112) lent x (λ (y : State) (m : Memory). records_of y.tally * 10 ≤ length (zeros 8190))
     (λ F room. (room_of (search_for q) (sizes lent) room).raw) e
@@ -50,7 +51,7 @@ marks_room n h =
     let b = length-replicate {A = ℕ} 819 0 in
     omega (arith, h, a, b)
 
-module _ (q : Question) (good : Faultless q) (x : State) (e : (open_def q (zeros 8112) (zeros 8112) lent).answer ≡ Open x) where
+module _ (q : Question) (good : Faultless q) (x : State) (e : (open_def q (zeros 8112) (zeros 8112) lent).answer ≡ Ok x) where
   abbrev o : Opening
   o = open_def q (zeros 8112) (zeros 8112) lent
 
@@ -67,11 +68,11 @@ module _ (q : Question) (good : Faultless q) (x : State) (e : (open_def q (zeros
         reporting = r;
         report = R;
         text =
-            ap (λ (a : Opened). opened_text a o.memory lent_output) e ∙ ap (λ (a : Stepped). stepped_text a m lent_output) L.answer
-            ∙ ap (λ (a : Reported). reported_text a r.output) R.told;
+            ap (λ (a : Result State OpenError). opened_text a o.memory lent_output) e ∙ ap (λ (a : Result State StepError). stepped_text a m lent_output) L.answer
+            ∙ ap (λ (a : Result Summary ReportError). reported_text a r.output) R.told;
         clear =
             λ c. complete_is_clear q (zeros 8112) (zeros 8112) lent x y e L.answer lent_output R.counts R.regions
-            (R.told ∙ ap (λ (w : Word). Told w R.counts R.regions) c);
+            (R.told ∙ ap (λ (w : Word). summary_of w R.counts R.regions) c);
       }
 
 -- ---- a chart
@@ -85,11 +86,6 @@ complete_word Unseparated = (λ e. absurd (false≢true e), λ e. absurd (let z 
 says : (q : Question) (r : PairReport q) → lines_complete q ≡ is_complete r.report.word
 says q r = sym (lines_say [] q) ∙ ap (starts []) r.text ∙ word_says [] r.report.word r.report.counts r.report.regions _
 
-both_true : (a b : Bool) → (a && b) ≡ true → (a ≡ true) × (b ≡ true)
-both_true true true e = (refl, refl)
-both_true true false e = absurd (false≢true e)
-both_true false b e = absurd (false≢true e)
-
 module _ (c : Chart) where
   each_complete : (ls : List ChartLine) (rs : LineReports c ls) → (all_complete c ls ≡ true) ↔ EachComplete c ls rs
   each_complete [] rs = (λ e. tt, λ e. refl)
@@ -97,7 +93,7 @@ module _ (c : Chart) where
       let i = each_complete ls rs.1 in
       let q = pair_for c l in
       let w = complete_word rs.0.report.word in (
-        λ e. let z = both_true (lines_complete q) (all_complete c ls) e in (w.0 (sym (says q rs.0) ∙ z.0), i.0 z.1),
+        λ e. let z = and_parts (lines_complete q) (all_complete c ls) e in (w.0 (sym (says q rs.0) ∙ z.0), i.0 z.1),
         λ h. (λ j. (says q rs.0 ∙ w.1 h.0) j && i.1 h.1 j),
       )
 

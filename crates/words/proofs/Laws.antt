@@ -1,20 +1,18 @@
 -- The words of a state: what the tests say, and words written. Assumes nothing.
-use mathlib.Core.Path.{◌≡◌, refl, sym, subst}
+use mathlib.Core.Path.{◌≡◌, refl, ◌∙◌}
 use mathlib.Core.Bool.{Bool, true, false, ◌&&◌}
 use mathlib.Core.List.{List, [], ◌∷◌}
-use Prim.Native.Nat.{ℕ, ◌+◌, ◌≤◌, ◌<◌}
+use Prim.Native.Nat.{ℕ, ◌≤◌}
 use native.Mathlib.Omega.{arith}
 use borrow.Author.Tests.{leb-true, le-leb}
 use mir.Syntax.{w16, w32, w64}
 use mir.Val.{Fits}
 use lib.Dec.{T, leb, eqb}
 use lib.ListN.{length, get_or, set}
-use lib.Seq.{paste}
 use lib.Ieee.{Float, binary64, fits, of_bits, to_bits}
 use lib.Ieee.Bits.{of_bits-to_bits}
 use Rattle.lists.specs.Parts.{patch}
 use Rattle.lists.specs.Tests.{every}
-use Rattle.texts.proofs.Laws.{copy_turn}
 use Rattle.states.proofs.Tests.{and_first, and_second}
 use Rattle.states.specs.declared.Tally.{Tally}
 use Rattle.states.specs.declared.State.{State}
@@ -24,13 +22,6 @@ use Rattle.words.specs.Words.{flag_of, last_words, words_of, moved_words, tally_
 -- ---- the tests of the words, as facts on numbers
 and_both : (a b : Bool) → a ≡ true → b ≡ true → a && b ≡ true
 and_both a b f g = rw (f, g) refl
-
--- a test that passes leaves the others; one that fails decides
-pub passed : {a b y : Bool} → a ≡ true → y ≡ b → y ≡ (a && b)
-passed e r = rw e r
-
-pub failed : {a : Bool} (b : Bool) → a ≡ false → false ≡ (a && b)
-failed b e = rw e refl
 
 pub within : (ws : List ℕ) → is_state ws ≡ true → Within ws
 within ws t =
@@ -63,12 +54,6 @@ within ws t =
       width1 = leb-true _ _ (and_second (leb 2 (get_or ws 8 0)) _ (and_first (is_width (get_or ws 8 0)) _ w1));
       width2 = leb-true _ _ (and_second (leb 2 (get_or ws 9 0)) _ (and_first (is_width (get_or ws 9 0)) _ w2));
     }
-
--- what is left of the counts' test where all but the last word pass
-pub last_count : (ws : List ℕ) → leb (get_or ws 0 0) 65535 ≡ true → leb (get_or ws 1 0) 65535 ≡ true → leb (get_or ws 2 0) 4294967295 ≡ true
-    → leb (get_or ws 4 0) 4294967295 ≡ true → leb (get_or ws 5 0) 4294967295 ≡ true → leb (get_or ws 6 0) 4294967295 ≡ true → leb (get_or ws 7 0) 4294967295 ≡ true
-    → leb (get_or ws 10 0) 1 ≡ counts_fit ws
-last_count ws a b c d e f g = simp (a, b, c, d, e, f, g)
 
 flag_fits : (b : Bool) → leb (flag_of b) 1 ≡ true
 flag_fits true = refl
@@ -121,11 +106,6 @@ written_state ws x e t f g =
     (and_both (turns_fit (words_of x)) true (and_both (leb (flag_of x.terms.turn1) 1) _ (flag_fits x.terms.turn1) (flag_fits x.terms.turn2)) refl)))))
 
 -- ---- words written
-pub words_turn : {s : List ℕ} (ws vs : List ℕ) (i : ℕ) → s ≡ paste ws 0 vs i → i < length ws → i < length vs → set s i (get_or vs i 0) ≡ paste ws 0 vs (i + 1)
-words_turn {s} ws vs i e h k =
-    let z : 0 + i ≡ i = omega arith in
-    subst (λ (j : ℕ). set s j (get_or vs i 0) ≡ paste ws 0 vs (i + 1)) z (copy_turn ws 0 vs i e (subst (λ (j : ℕ). j < length ws) (sym z) h) k)
-
 pub words_are : (x : State) {a b c d : ℕ} {l : List ℕ} → a ≡ x.width1 → b ≡ x.width2 → c ≡ flag_of x.tally.stopped → d ≡ to_bits binary64 x.gap
     → l ≡ last_words x
     → x.tally.pairs ∷ x.tally.quota ∷ x.tally.waiting ∷ x.tally.visits ∷ x.tally.splits ∷ x.tally.unspent ∷ x.tally.settled ∷ x.tally.given
@@ -157,18 +137,11 @@ fifteen P q ws long =
     (λ f g h i j l r. five (λ (l : List ℕ). P (a ∷ b ∷ c ∷ d ∷ e ∷ f ∷ g ∷ h ∷ i ∷ j ∷ l)) (q a b c d e f g h i j) l (omega arith)) l (omega arith) (omega arith))
     ws (omega arith) long
 
--- ten stores, one after the other, c into word 10
-abbrev pub stored : Tally → ℕ → List ℕ → List ℕ
-stored t c ws =
-    let six = set (set (set (set (set (set ws 2 t.waiting) 3 t.visits) 4 t.splits) 5 t.unspent) 6 t.settled) 7 t.given in
-    set (set (set (set six 10 c) 12 t.boxes) 13 t.planes) 14 t.lines
-
-pub moves_are : (ws : List ℕ) (x : State) {c : ℕ} → 23 ≤ length ws → c ≡ flag_of x.tally.stopped → stored x.tally c ws ≡ moved_words ws x
-moves_are ws x {c} n e =
-    let t = x.tally in
-    fifteen (λ (l : List ℕ). stored t c l ≡ moved_words l x)
-    (λ a b _ _ _ _ _ _ i j _ m _ _ _ l. λ s. a ∷ b ∷ t.waiting ∷ t.visits ∷ t.splits ∷ t.unspent ∷ t.settled ∷ t.given ∷ i ∷ j ∷ e s ∷ m
-    ∷ t.boxes ∷ t.planes ∷ t.lines ∷ l) ws (omega arith)
+-- three rows of a state's words in their places
+pub rows_are : (ws l : List ℕ) (x : State) {a b : List ℕ} → l ≡ words_of x
+    → a ≡ patch ws 2 (get_or l 2 0 ∷ get_or l 3 0 ∷ get_or l 4 0 ∷ get_or l 5 0 ∷ get_or l 6 0 ∷ get_or l 7 0 ∷ [])
+    → b ≡ patch (set a 10 (get_or l 10 0)) 12 (get_or l 12 0 ∷ get_or l 13 0 ∷ get_or l 14 0 ∷ []) → b ≡ moved_words ws x
+rows_are ws l x e f g = g ∙ rw (f, e) refl
 
 -- a state's words stay a state's: those that move have a state's numbers
 pub moved_state_lem : (ws : List ℕ) (x : State) → counts_fit (words_of x) ≡ true → tags_fit (words_of x) ≡ true → is_state ws ≡ true → is_state (moved_words ws x) ≡ true

@@ -1,5 +1,5 @@
 -- A state as words of 64 bits, as other programs hand it over. Definitions only.
-use Rattle.std.specs.Prelude.{◌≡◌, List, [], ◌∷◌, Bool, true, false, ◌&&◌, cond, ℕ, ◌≤◌, leb, eqb, length, get_or, set}
+use Rattle.std.specs.Prelude.{List, [], ◌∷◌, Bool, true, false, ◌&&◌, ℕ, ◌≤◌, leb, eqb, length, get_or, set}
 use Rattle.std.specs.Float.{binary64}
 use Rattle.std.specs.Float.Ieee.{of_bits, to_bits}
 use Rattle.lists.specs.Parts.{part, patch}

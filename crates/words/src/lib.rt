@@ -15,28 +15,14 @@ fn counts_fit(w: &[u64]) -> bool
     requires { 23 ≤ length w.now }
     ensures { result ≡ counts_fit w.now }
 {
-    if w[0] > 65535 {
-        return false;
-    }
-    if w[1] > 65535 {
-        return false;
-    }
-    if w[2] > 4294967295 {
-        return false;
-    }
-    if w[4] > 4294967295 {
-        return false;
-    }
-    if w[5] > 4294967295 {
-        return false;
-    }
-    if w[6] > 4294967295 {
-        return false;
-    }
-    if w[7] > 4294967295 {
-        return false;
-    }
-    w[10] <= 1
+    w[0] <= 65535
+        && w[1] <= 65535
+        && w[2] <= 4294967295
+        && w[4] <= 4294967295
+        && w[5] <= 4294967295
+        && w[6] <= 4294967295
+        && w[7] <= 4294967295
+        && w[10] <= 1
 }
 
 // The nodes settled by box, plane and line.
@@ -44,71 +30,40 @@ fn tags_fit(w: &[u64]) -> bool
     requires { 23 ≤ length w.now }
     ensures { result ≡ tags_fit w.now }
 {
-    if w[12] > 4294967295 {
-        return false;
-    }
-    if w[13] > 4294967295 {
-        return false;
-    }
-    w[14] <= 4294967295
+    w[12] <= 4294967295 && w[13] <= 4294967295 && w[14] <= 4294967295
 }
 
 // The points of a net, degree + 1.
 fn is_width(n: u64) -> bool
     ensures { result ≡ is_width n }
 {
-    if n < 2 {
-        return false;
-    }
-    n <= 26
+    n >= 2 && n <= 26
 }
 
 fn are_zero(w: &[u64]) -> bool
     ensures { result ≡ are_zero w.now }
 {
-    let mut i = 0usize;
-    while i < w.len() {
-        if w[i] != 0 {
-            return false;
-        }
-        i += 1;
-    }
-    true
+    w.iter().all(|n| *n == 0)
 }
 
 fn turns_fit(w: &[u64]) -> bool
     requires { 23 ≤ length w.now }
     ensures { result ≡ turns_fit w.now }
 {
-    if w[17] > 1 {
-        return false;
-    }
-    w[18] <= 1
+    w[17] <= 1 && w[18] <= 1
 }
 
 // Whether the words are a state's: 23 or more, each within its bits. Words 15 and 16 have none.
 pub fn is_state(w: &[u64]) -> bool
     ensures { result ≡ is_state w.now }
 {
-    if w.len() < 23 {
-        return false;
-    }
-    if !counts_fit(w) {
-        return false;
-    }
-    if !tags_fit(w) {
-        return false;
-    }
-    if !is_width(w[8]) {
-        return false;
-    }
-    if !is_width(w[9]) {
-        return false;
-    }
-    if !turns_fit(w) {
-        return false;
-    }
-    are_zero(&w[15..17])
+    w.len() >= 23
+        && counts_fit(w)
+        && tags_fit(w)
+        && is_width(w[8])
+        && is_width(w[9])
+        && turns_fit(w)
+        && are_zero(&w[15..17])
 }
 
 // ---- a state from words, and its words
@@ -160,21 +115,6 @@ pub fn read_state(w: &[u64]) -> State
     }
 }
 
-fn flag(b: bool) -> u64
-    ensures { result ≡ flag_of b }
-{
-    if b {
-        return 1;
-    }
-    0
-}
-
-fn wide(x: u8) -> u64
-    ensures { result ≡ x }
-{
-    x as u64
-}
-
 fn state_words(st: State) -> [u64; 23]
     ensures { (result ≡ words_of st) × (counts_fit (words_of st) ≡ true) × (tags_fit (words_of st) ≡ true) }
 {
@@ -188,17 +128,17 @@ fn state_words(st: State) -> [u64; 23]
         t.unspent as u64,
         t.settled as u64,
         t.given as u64,
-        wide(st.width1),
-        wide(st.width2),
-        flag(t.stopped),
+        u64::from(st.width1),
+        u64::from(st.width2),
+        u64::from(t.stopped),
         patterns::pattern(st.gap),
         t.boxes as u64,
         t.planes as u64,
         t.lines as u64,
         0,
         0,
-        flag(st.terms.turn1),
-        flag(st.terms.turn2),
+        u64::from(st.terms.turn1),
+        u64::from(st.terms.turn2),
         patterns::pattern(st.terms.lo1),
         patterns::pattern(st.terms.hi1),
         patterns::pattern(st.terms.lo2),
@@ -211,11 +151,7 @@ pub fn put_words(words: &[u64], w: &mut [u64])
     requires { length words.now ≤ length w.old }
     ensures { w.new ≡ patch w.old 0 words.now }
 {
-    let mut i = 0usize;
-    while i < words.len() {
-        w[i] = words[i];
-        i += 1;
-    }
+    w[..words.len()].copy_from_slice(words);
 }
 
 // All words of a state; they are a state's where the widths are.
@@ -234,15 +170,12 @@ pub fn move_state(st: State, w: &mut [u64])
     ensures w_after { w.new ≡ moved_words w.old st }
     ensures w_after_2 { is_state w.old ≡ true → is_state w.new ≡ true }
 {
-    let t = st.tally;
-    w[2] = t.waiting as u64;
-    w[3] = t.visits;
-    w[4] = t.splits as u64;
-    w[5] = t.unspent as u64;
-    w[6] = t.settled as u64;
-    w[7] = t.given as u64;
-    w[10] = flag(t.stopped);
-    w[12] = t.boxes as u64;
-    w[13] = t.planes as u64;
-    w[14] = t.lines as u64;
+    let words = state_words(st);
+    lists::put(
+        w,
+        2,
+        [words[2], words[3], words[4], words[5], words[6], words[7]],
+    );
+    w[10] = words[10];
+    lists::put(w, 12, [words[12], words[13], words[14]]);
 }

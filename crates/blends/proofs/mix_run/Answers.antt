@@ -1,25 +1,14 @@
--- `mix_run` is a round in place. Assumes nothing.
-use mathlib.Core.Path.{◌≡◌, refl, ◌∙◌}
-use Prim.Native.Nat.{◌+◌, ◌-◌}
-use native.Mathlib.Omega.{arith}
+-- `mix_run` is a round in place from `at` on. Assumes nothing.
+use mathlib.Core.Path.{refl, sym}
+use mathlib.Core.List.{append-nil}
+use lib.ListN.{length-drop, drop}
+use lib.Seq.{take-length, drop-length}
 use borrow.Author.Rules.{rules}
 use Rattle.blends.specs.Blends.{mix_of}
-use Rattle.lists.proofs.Rounds as rounds
 use Rattle.blends.proofs.mix_run.Goals as goal
 
-pub loop-x-init : goal.loop-x-init
-loop-x-init c = (refl, search rules, search rules, let k : c.args.at + c.args.n - c.args.at ≡ c.args.n = omega arith in rw k refl)
-
-pub loop-x-preserved : goal.loop-x-preserved
-loop-x-preserved c = let args = c.args in
-    let l = c.loop-x in (
-      search rules,
-      search rules,
-      search rules,
-      rounds.paired-turn (mix_of args.alpha) 26 l.s l.x (args.at + args.n) c.mix.result (search rules) (omega arith) c.mix.ensures
-          ∙ l.invariant.3,
-    )
-
 pub returns : goal.returns
-returns c = let args = c.args in
-    rounds.paired_done (mix_of args.alpha) 26 c.loop-x.s _ c.loop-x.x (args.at + args.n) (search rules) c.loop-x.invariant.3
+returns c = let a = c.args in
+    let l = drop a.at a.s.now in
+    let e = c.pair_round.ensures (mix_of a.alpha) (search rules) in
+    rw (e, sym (length-drop a.at a.s.now), take-length l, drop-length l, append-nil) refl

@@ -11,7 +11,7 @@ pub returns : goal.returns
 unfolding coefficients
 returns c = let a = c.args in
     c.weigh.ensures
-    ∙ ap (λ l. weighed nothing (a.p + 1) 0 l a.poles.now) (c.levels.ensures
-    ∙ ap (triangle (λ r. alpha_of a.p a.u a.near.now (end_of a.p a.u a.near.now a.k r) r) a.p 0)
+    ∙ ap (λ l. weighed nothing (a.near.p + 1) 0 l a.poles.now) (c.levels.ensures
+    ∙ ap (triangle (λ r. alpha_of a.near.p a.near.u a.near.knots.now (end_of a.near.p a.near.u a.near.knots.now a.k r) r) a.near.p 0)
     c.start.ensures)
-    ∙ book.point_is a.p a.u a.near.now a.poles.now a.k (search rules)
+    ∙ book.point_is a.near.p a.near.u a.near.knots.now a.poles.now a.k (search rules)

@@ -1,14 +1,11 @@
 -- `start` makes the table of level 0, one row a turn. Assumes nothing.
 use mathlib.Core.Path.{◌≡◌}
 use mathlib.Core.List.{◌++◌}
-use Prim.Native.Nat.{◌-◌, ◌*◌, ◌≤◌}
-use lib.ListN.{length, replicate}
+use Prim.Native.Nat.{◌-◌, ◌*◌}
+use lib.ListN.{replicate}
 use Rattle.floats.specs.Floats.{zero64}
 use Rattle.blends.specs.Table.{units}
 use Rattle.blends.proofs.start.Given as goal
 
 abbrev pub invariant-loop-i : goal.invariant-loop-i
-invariant-loop-i l = (length l.s ≡ 702) × (l.i ≤ 26) × (l.s ≡ units (27 * l.i) 0 ++ replicate (702 - 27 * l.i) zero64)
-
-abbrev pub decreases-loop-i : goal.decreases-loop-i
-decreases-loop-i l = 26 - l.i
+invariant-loop-i l = l.s ≡ units (27 * l.i) 0 ++ replicate (702 - 27 * l.i) zero64

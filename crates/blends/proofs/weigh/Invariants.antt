@@ -1,12 +1,9 @@
 -- `weigh` adds up: what is added and what is to come are the whole. Assumes nothing.
 use mathlib.Core.Path.{◌≡◌}
-use Prim.Native.Nat.{◌-◌, ◌≤◌}
+use Prim.Native.Nat.{◌-◌}
 use Rattle.blends.specs.Blends.{nothing}
 use Rattle.blends.specs.Table.{weighed}
 use Rattle.blends.proofs.weigh.Given as goal
 
 abbrev pub invariant-loop-j : goal.invariant-loop-j
-invariant-loop-j l = (l.j ≤ l.n) × (weighed l.q (l.n - l.j) l.j l.row l.poles ≡ weighed nothing l.n 0 l.row l.poles)
-
-abbrev pub decreases-loop-j : goal.decreases-loop-j
-decreases-loop-j l = l.n - l.j
+invariant-loop-j l = weighed l.q (l.n - l.j) l.j l.row l.poles ≡ weighed nothing l.n 0 l.row l.poles

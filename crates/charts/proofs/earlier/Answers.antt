@@ -1,12 +1,9 @@
--- `earlier` is earlier_of. Assumes nothing.
-use Rattle.charts.specs.Found.{tested_of}
-use Rattle.charts.proofs.Laws.{earlier_second, earlier_first}
+-- `earlier` is earlier_of where one is nothing. Assumes nothing.
+use Rattle.charts.proofs.Laws.{nothing_as, earlier_as}
 use Rattle.charts.proofs.earlier.Goals as goal
 
-pub returns-then-rank : goal.returns-then-rank
-returns-then-rank c = let args = c.args in
-    earlier_second (tested_of args.a) (tested_of args.b) c.rank.ensures c.rank-2.ensures c.if-rank.true
+pub returns-in_default : goal.returns-in_default
+returns-in_default c = nothing_as c.args.a c.args.b c.in_default.not-Some
 
-pub returns : goal.returns
-returns c = let args = c.args in
-    earlier_first (tested_of args.a) (tested_of args.b) c.rank.ensures c.rank-2.ensures c.if-rank.false
+pub returns-in_default-b : goal.returns-in_default-b
+returns-in_default-b c = earlier_as c.args.a c.args.b c.in-Some.is c.in_default-b.not-Some

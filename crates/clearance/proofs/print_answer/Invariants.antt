@@ -1,5 +1,5 @@
 -- The answer written in instalments: each lies in the buffer, and those so far and those to come are the answer. Assumes nothing.
-use Rattle.std.proofs.Common.{◌≡◌, ◌-◌, ◌≤◌, length}
+use Rattle.std.proofs.Common.{◌≡◌, ◌≤◌, length}
 use Rattle.sheet.specs.Answers.{longest}
 use Rattle.clearance.proofs.Writing.{Written}
 use Rattle.clearance.proofs.print_answer.Given as goal
@@ -7,9 +7,5 @@ use Rattle.clearance.proofs.print_answer.Given as goal
 abbrev pub invariant-loop-k : goal.invariant-loop-k
 invariant-loop-k g l = record {
   room : length l.out ≡ length l.initial.out;
-  few : l.k ≤ 66;
   written : longest ≤ length l.initial.out → Written (g.W.Write.contents l.initial.to) (g.W.Write.contents l.to) l.s l.k l.good;
 }
-
-abbrev pub decreases-loop-k : goal.decreases-loop-k
-decreases-loop-k g l = 66 - l.k

@@ -1,21 +1,17 @@
 -- `cut_from` leaves what remains of its rounds. Assumes nothing.
-use mathlib.Core.Path.{refl, ◌∙◌}
-use Prim.Native.Nat.{◌-◌}
-use native.Mathlib.Nat.{sub-zero}
-use borrow.Author.Rules.{rules}
+use mathlib.Core.Path.{◌∙◌}
+use native.Mathlib.Omega.{arith}
+use Rattle.lists.proofs.Rounds.{remains-turn, remains_done}
 use Rattle.cuts.specs.Cuts.{lerp_of}
-use Rattle.lists.proofs.Rounds as rounds
 use Rattle.cuts.proofs.cut_from.Goals as goal
-
-pub loop-r-init : goal.loop-r-init
-loop-r-init c = (search rules, search rules, rw sub-zero refl)
 
 pub loop-r-preserved : goal.loop-r-preserved
 loop-r-preserved c = let a = c.args in
     let l = c.loop-r in
     let m = c.lerp_round in
-    (search rules, search rules, rounds.remains-turn (lerp_of a.f) a.n l.r l.s m.new.s (search rules) m.ensures ∙ l.invariant.2)
+    remains-turn (lerp_of a.f) a.n l.r l.s m.new.s (omega arith) m.ensures ∙ l.invariant
 
 pub returns : goal.returns
-returns c = rounds.remains_done (lerp_of c.args.f) c.args.n c.loop-r.r c.loop-r.s _
-    (search rules) c.loop-r.invariant.2
+returns c = let a = c.args in
+    let l = c.loop-r in
+    remains_done (lerp_of a.f) a.n l.r l.s _ (omega arith) l.invariant

@@ -1,12 +1,8 @@
 -- `cut_from` leaves what remains of its rounds. Assumes nothing.
 use mathlib.Core.Path.{◌≡◌}
-use Prim.Native.Nat.{◌-◌, ◌*◌, ◌≤◌}
-use lib.ListN.{length}
+use Prim.Native.Nat.{◌-◌}
 use Rattle.cuts.specs.Cuts.{from_of}
 use Rattle.cuts.proofs.cut_from.Given as goal
 
 abbrev pub invariant-loop-r : goal.invariant-loop-r
-invariant-loop-r l = (length l.s ≡ l.n * 4) × (l.r ≤ l.n) × (from_of l.f (l.n - l.r) l.s ≡ from_of l.f l.n l.initial.s)
-
-abbrev pub decreases-loop-r : goal.decreases-loop-r
-decreases-loop-r l = l.n - l.r
+invariant-loop-r l = from_of l.f (l.n - l.r) l.s ≡ from_of l.f l.n l.initial.s

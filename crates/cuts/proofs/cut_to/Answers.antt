@@ -1,32 +1,22 @@
 -- `cut_to` keeps the first point of each round. Assumes nothing.
-use mathlib.Core.Path.{refl, ap, ◌∙◌}
-use mathlib.Core.List.{◌∷◌, ◌++◌}
-use Prim.Native.Nat.{◌+◌, ◌-◌, ◌*◌}
-use native.Mathlib.Nat.{sub-zero}
-use lib.ListN.{take, drop}
-use borrow.Author.Rules.{rules}
+use mathlib.Core.Path.{refl, ◌∙◌}
+use Prim.Native.Nat.{◌*◌}
+use native.Mathlib.Omega.{arith}
+use lib.Seq.{length-take-le}
+use Rattle.lists.proofs.Parts.{given_back}
+use Rattle.lists.proofs.Rounds.{firsts_copied, firsts_done}
 use Rattle.cuts.specs.Cuts.{lerp_of}
-use Rattle.lists.proofs.Rounds as rounds
 use Rattle.cuts.proofs.cut_to.Goals as goal
-
-pub loop-r-init : goal.loop-r-init
-loop-r-init c = (search rules, search rules, search rules, rw sub-zero refl)
 
 pub loop-r-preserved : goal.loop-r-preserved
 loop-r-preserved c = let a = c.args in
     let l = c.loop-r in
-    let q = c.put in
-    let m = c.lerp_round in (
-      search rules,
-      search rules,
-      search rules,
-      rounds.firsts-turn (lerp_of a.f) a.n l.r l.low q.new.s l.s m.new.s (search rules) l.invariant.1 l.invariant.0
-          (q.ensures
-          ∙ ap (λ p. take (l.r * 4) l.low ++ (p.x ∷ p.y ∷ p.z ∷ p.w ∷ drop (l.r * 4 + 4) l.low))
-          c.first.ensures) m.ensures ∙ l.invariant.3,
-    )
+    let m = c.lerp_round in
+    firsts_copied (lerp_of a.f) a.n l.r l.low _ l.s m.new.s (omega arith) (omega arith) (omega arith)
+    (given_back (l.r * 4) 4 c.copy_from_slice.ensures.after refl (length-take-le 4 l.s (omega arith))) m.ensures
+    ∙ l.invariant
 
 pub returns : goal.returns
-returns c = let l = c.loop-r in
-    let a = c.args in
-    rounds.firsts_done (lerp_of a.f) a.n l.r l.low l.s _ l.invariant.1 (search rules) (search rules) l.invariant.3
+returns c = let a = c.args in
+    let l = c.loop-r in
+    firsts_done (lerp_of a.f) a.n l.r l.low l.s _ (omega arith) (omega arith) (omega arith) l.invariant

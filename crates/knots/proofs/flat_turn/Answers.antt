@@ -1,13 +1,7 @@
 -- `flat_turn`: its three parts, one after the other. Assumes nothing.
-use mathlib.Core.Path.{sym}
-use Prim.Native.Nat.{◌-◌}
 use native.Mathlib.Omega.{arith}
-use lib.Seq.{length-take-le}
 use Rattle.knots.proofs.Laws as laws
 use Rattle.knots.proofs.flat_turn.Goals as goal
-
-pub slice_bounds-shift-end-3 : goal.slice_bounds-shift-end-3
-slice_bounds-shift-end-3 c = sym (length-take-le _ _ (omega arith))
 
 pub shift-requires : goal.shift-requires
 shift-requires c = let a = c.args in

@@ -1,20 +1,20 @@
 -- `admit` is the whole chain: its first half stops it, or the second goes on. Assumes nothing.
-use mathlib.Core.Path.{sym, ◌∙◌}
+use mathlib.Core.Path.{◌≡◌, sym, ◌∙◌}
+use Rattle.std.proofs.Common.{rules, tests, Err}
 use Rattle.lines.proofs.Laws as laws
 use Rattle.lines.proofs.Admitted as admitted
 use Rattle.lines.proofs.admit.Goals as goal
 
-pub returns-in_default : goal.returns-in_default
-returns-in_default c = let a = c.args in
-    let d = c.validate_direction-direction in
-    d.ensures ∙ sym ((laws.direction_chain a.closed a.degree a.knots.now a.mults.now).1 _ (λ e. c.in_default.not-Admitted (d.ensures ∙ e)))
+pub returns-in_err-validate_direction : goal.returns-in_err-validate_direction
+returns-in_err-validate_direction c = let l = c.args.l in
+    let r : c.from_residual.result ≡ Err c.in_err-validate_direction.field-0.0 = search (rules, tests) in
+    r ∙ sym ((laws.direction_chain l.closed l.degree l.knots.now l.mults.now).1 _ _ (sym c.in_err-validate_direction.ensures))
 
 pub validate_poles-requires : goal.validate_poles-requires
-validate_poles-requires c = let a = c.args in
-    let d = c.validate_direction-direction in
-    admitted.few a.degree a.knots.now a.mults.now _ (sym d.ensures ∙ c.in-Admitted.is)
+validate_poles-requires c = let l = c.args.l in
+    let f = admitted.few l.degree l.knots.now l.mults.now _ (sym c.in_ok-validate_direction.ensures) in
+    ((f.0, f.1), f.2)
 
 pub returns : goal.returns
-returns c = let a = c.args in
-    let d = c.validate_direction-direction in
-    c.validate_poles.ensures ∙ sym ((laws.direction_chain a.closed a.degree a.knots.now a.mults.now).0 _ (sym d.ensures ∙ c.in-Admitted.is))
+returns c = let l = c.args.l in
+    c.validate_poles.ensures ∙ sym ((laws.direction_chain l.closed l.degree l.knots.now l.mults.now).0 _ (sym c.in_ok-validate_direction.ensures))

@@ -2,7 +2,8 @@
 use mathlib.Core.Path.{sym, subst, ◌∙◌}
 use Prim.Native.Nat.{ℕ}
 use borrow.Author.Tests.{not-true, not-false}
-use Rattle.pairs.specs.Pairs.{pieces}
+use lib.ListN.{length}
+use Rattle.pairs.specs.Pairs.{seen}
 use Rattle.pairs.specs.Nodes.{Room, nodes}
 use Rattle.states.specs.States.{memory, sizes}
 use Rattle.opening.proofs.Laws.{push_room, push_short, push_done}
@@ -14,29 +15,20 @@ fresh-st-requires c = let pre = c.requires in
 
 pub returns-then-not-has_room : goal.returns-then-not-has_room
 returns-then-not-has_room c = let args = c.args in
-    push_short args.q.splits args.q.gap args.terms (pieces args.w1 args.pieces1.now args.breaks1.now)
-    (pieces args.w2 args.pieces2.now args.breaks2.now) args.n1 args.n2
+    push_short args.q.splits args.q.gap args.terms (seen args.p1) (seen args.p2) (length args.boxes1.now) (length args.boxes2.now)
     (memory args.nets1.now args.nets2.now args.ranges.now args.depths.now args.raw.now) _ _
     c.requires.n_value c.fresh-st.ensures (sym c.has_room.ensures ∙ not-true _ c.if-not-has_room.true-raw)
 
-pub push_pairs-requires : goal.push_pairs-requires
-push_pairs-requires c = let args = c.args in
-    let pre = c.requires in record {
-      holds_boxes = pre.holds_boxes;
-      has_pieces = pre.has_pieces;
-      fact = subst (λ (k : ℕ). Room (pieces args.w1 args.pieces1.now args.breaks1.now)
-          (pieces args.w2 args.pieces2.now args.breaks2.now) k
-          (nodes args.nets1.now args.nets2.now args.ranges.now args.depths.now))
-          pre.n_value
-          (push_room _ _ _ _ _ _ _ (sizes (memory args.nets1.now args.nets2.now args.ranges.now args.depths.now args.raw.now))
-          c.fresh-st.ensures (sym c.has_room.ensures ∙ not-false _ c.if-not-has_room.false-raw));
-    }
+pub push_pairs-requires-clause-fact : goal.push_pairs-requires-clause-fact
+push_pairs-requires-clause-fact c = let args = c.args in
+    subst (λ (k : ℕ). Room (seen args.p1) (seen args.p2) k (nodes args.nets1.now args.nets2.now args.ranges.now args.depths.now))
+    c.requires.n_value
+    (push_room _ _ _ _ _ _ _ (sizes (memory args.nets1.now args.nets2.now args.ranges.now args.depths.now args.raw.now))
+    c.fresh-st.ensures (sym c.has_room.ensures ∙ not-false _ c.if-not-has_room.false-raw))
 
 pub returns : goal.returns
 returns c = let args = c.args in
-    let push-pairs = c.push_pairs in
-    push_done args.q.splits args.q.gap args.terms (pieces args.w1 args.pieces1.now args.breaks1.now)
-    (pieces args.w2 args.pieces2.now args.breaks2.now) args.n1 args.n2
+    let P = c.push_pairs.ensures in
+    push_done args.q.splits args.q.gap args.terms (seen args.p1) (seen args.p2) (length args.boxes1.now) (length args.boxes2.now)
     (memory args.nets1.now args.nets2.now args.ranges.now args.depths.now args.raw.now) _ _
-    c.requires.n_value c.fresh-st.ensures (sym c.has_room.ensures ∙ not-false _ c.if-not-has_room.false-raw) _ _ _ _ push-pairs.ensures.0
-    push-pairs.ensures.1 push-pairs.ensures.2 push-pairs.ensures.3
+    c.requires.n_value c.fresh-st.ensures (sym c.has_room.ensures ∙ not-false _ c.if-not-has_room.false-raw) _ _ _ _ P.0 P.1 P.2 P.3

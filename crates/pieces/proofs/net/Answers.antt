@@ -10,5 +10,5 @@ returns c = let a = c.args in
     let i = c.span_around-around in
     let f = c.share_of-f0 in
     let g = c.share_of-f1 in
-    laws.net_is a.closed a.p a.knots.now a.flat.now a.poles.now a.t0 a.t1 m.result v.result i.result f.result g.result l.new.out _
+    laws.net_is a.s.closed a.s.p a.s.knots.now a.s.flat.now a.s.poles.now a.t0 a.t1 m.result v.result i.result f.result g.result l.new.out _
     m.ensures v.ensures l.ensures i.ensures f.ensures g.ensures c.restrict.ensures

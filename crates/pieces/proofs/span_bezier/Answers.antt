@@ -7,5 +7,5 @@ pub returns : goal.returns
 unfolding held
 returns c = let a = c.args in
     let u = c.clamp-u in
-    let s = c.span-s in
-    laws.span_is a.p a.flat.now a.poles.now _ u.result a.v s.result u.ensures s.ensures.0 c.points.ensures
+    let s = c.span-at in
+    laws.span_is a.s.p a.s.flat.now a.s.poles.now _ u.result a.v s.result u.ensures s.ensures.0 c.points.ensures

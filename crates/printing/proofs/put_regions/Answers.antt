@@ -1,14 +1,14 @@
 -- A line a region: before each turn the first `k` are written. Assumes nothing.
 use borrow.Author.Rules.{rules}
 use mathlib.Core.Path.{refl}
-use Prim.Native.Nat.{◌-◌, ◌*◌}
+use Prim.Native.Nat.{◌*◌}
 use Rattle.lists.proofs.Parts.{lent_length}
-use Rattle.printing.proofs.Laws.{regions_start, regions_turn, regions_done}
+use Rattle.printing.proofs.Laws.{regions_start, regions_turn}
 use Rattle.printing.proofs.put_regions.Goals as goal
 
 pub loop-k-init : goal.loop-k-init
 loop-k-init c = let args = c.args in
-    (refl, search rules, regions_start args.out.now args.at args.list.now args.marks.now, search rules)
+    (refl, regions_start args.out.now args.at args.list.now args.marks.now, search rules)
 
 pub put_region-here-requires : goal.put_region-here-requires
 put_region-here-requires c = (
@@ -20,13 +20,5 @@ pub loop-k-preserved : goal.loop-k-preserved
 loop-k-preserved c = let loop = c.loop-k in
     let args = c.args in
     let t = regions_turn args.out.now args.at args.list.now args.marks.now loop.k args.n (search rules) (search rules)
-    loop.invariant.2 loop.invariant.3 (c.put_region-here.ensures.wrote, c.put_region-here.ensures.upper_bound) in
-    (search rules, search rules, t.0, t.1)
-
-pub returns : goal.returns
-returns c = let loop = c.loop-k in
-    let args = c.args in
-    record {
-      wrote = (regions_done args.out.now args.at args.list.now args.marks.now loop.k args.n (search rules) (search rules) loop.invariant.2 loop.invariant.3).0;
-      upper_bound = (regions_done args.out.now args.at args.list.now args.marks.now loop.k args.n (search rules) (search rules) loop.invariant.2 loop.invariant.3).1;
-    }
+    loop.invariant.1 loop.invariant.2 (c.put_region-here.ensures.wrote, c.put_region-here.ensures.upper_bound) in
+    (search rules, t.0, t.1)

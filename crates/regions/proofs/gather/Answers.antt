@@ -1,12 +1,7 @@
 -- `gather` takes the raw regions from the end. The invariant, Gathering, says that those left give the wanted list; the measure is how many are left. Assumes nothing.
-use mathlib.Core.Path.{refl}
-use native.Mathlib.Omega.{arith}
 use borrow.Author.Rules.{rules}
 use Rattle.regions.proofs.Passes.{gather_turn, gather_done}
 use Rattle.regions.proofs.gather.Goals as goal
-
-pub loop-i-init : goal.loop-i-init
-loop-i-init c = record { same = refl; at = omega arith; follows = refl; rest = refl }
 
 pub loop-i-preserved : goal.loop-i-preserved
 loop-i-preserved c = let w = c.absorb-m in

@@ -4,6 +4,3 @@ use Rattle.regions.proofs.gather.Given as goal
 
 abbrev pub invariant-loop-i : goal.invariant-loop-i
 invariant-loop-i l = Gathering l.raw l.n l.initial.out l.out l.m l.i
-
-abbrev pub decreases-loop-i : goal.decreases-loop-i
-decreases-loop-i l = l.i

@@ -1,6 +1,5 @@
 -- `insert` puts region k in its place. The invariant, Inserting, says that inserting behind j gives the wanted list; the measure is how many are behind. Assumes nothing.
 use mathlib.Core.Path.{refl}
-use Prim.Native.Nat.{◌-◌}
 use borrow.Author.Rules.{rules}
 use Rattle.regions.proofs.Sorting.{insert_turn, stop_end, stop_here, insert_done}
 use Rattle.regions.proofs.insert.Goals as goal

@@ -1,13 +1,7 @@
 -- `sweep` is one pass. The invariant, Pass, says that what is left to test gives the wanted region and list; the measure is how many are left. Assumes nothing.
-use mathlib.Core.Path.{refl}
-use Prim.Native.Nat.{◌-◌}
-use native.Mathlib.Omega.{arith}
 use borrow.Author.Rules.{rules}
 use Rattle.regions.proofs.Passes.{pass_turn, pass_grown, pass_stays, pass_kept}
 use Rattle.regions.proofs.sweep.Goals as goal
-
-pub loop-i-init : goal.loop-i-init
-loop-i-init c = record { same = refl; at = omega arith; behind = omega arith; grows = refl; stays = refl; rest = refl }
 
 pub loop-i-preserved : goal.loop-i-preserved
 loop-i-preserved c = let w = c.sweep_one-s in

@@ -1,38 +1,12 @@
--- `report` is report_def: one test a return, then the left nodes' regions, the merged list and its marks. Assumes nothing.
+-- `report` is report_def: the left nodes' regions, the merged list and its marks. Assumes nothing.
 use borrow.Author.Rules.{rules}
 use mathlib.Core.Path.{sym, ap, ◌∙◌}
-use borrow.Author.Tests.{not-true, not-false}
+use borrow.Author.Tests.{not-false}
 use Rattle.states.specs.States.{memory, sizes, search_with}
 use Rattle.nodes.specs.Nets.{geometry}
 use Rattle.report.specs.Reports.{output}
-use Rattle.report.proofs.Laws.{room-left, few_marks, report_running, report_short, report_cramped, report_forged, report_told}
+use Rattle.report.proofs.Laws.{room-left, few_marks, report_told}
 use Rattle.report.proofs.report.Goals as goal
-
-pub returns-then-not-ended : goal.returns-then-not-ended
-returns-then-not-ended c = let args = c.args in
-    report_running geometry args.st (memory args.nets1.now args.nets2.now args.ranges.now args.depths.now args.raw.now) (output args.out.now args.marks.now)
-    (sym c.ended.ensures ∙ not-true _ c.if-not-ended.true-raw)
-
-pub returns-then-not-has_room : goal.returns-then-not-has_room
-returns-then-not-has_room c = let args = c.args in
-    report_short geometry args.st (memory args.nets1.now args.nets2.now args.ranges.now args.depths.now args.raw.now) (output args.out.now args.marks.now)
-    (sym c.ended.ensures ∙ not-false _ c.if-not-ended.false-raw)
-    (sym c.has_room.ensures ∙ not-true _ c.if-not-has_room.true-raw)
-
-pub returns-then-not-has_report_room : goal.returns-then-not-has_report_room
-returns-then-not-has_report_room c = let args = c.args in
-    report_cramped geometry args.st (memory args.nets1.now args.nets2.now args.ranges.now args.depths.now args.raw.now) (output args.out.now args.marks.now)
-    (sym c.ended.ensures ∙ not-false _ c.if-not-ended.false-raw)
-    (sym c.has_room.ensures ∙ not-false _ c.if-not-has_room.false-raw)
-    (sym c.has_report_room.ensures ∙ not-true _ c.if-not-has_report_room.true-raw)
-
-pub returns-then-not-is_search : goal.returns-then-not-is_search
-returns-then-not-is_search c = let args = c.args in
-    report_forged geometry args.st (memory args.nets1.now args.nets2.now args.ranges.now args.depths.now args.raw.now) (output args.out.now args.marks.now)
-    (sym c.ended.ensures ∙ not-false _ c.if-not-ended.false-raw)
-    (sym c.has_room.ensures ∙ not-false _ c.if-not-has_room.false-raw)
-    (sym c.has_report_room.ensures ∙ not-false _ c.if-not-has_report_room.false-raw)
-    (ap (search_with args.st.tally) (sym c.top_depth.ensures) ∙ (sym c.is_search.ensures ∙ not-true _ c.if-not-is_search.true-raw))
 
 pub list_left-requires : goal.list_left-requires
 list_left-requires c = let args = c.args in
@@ -50,9 +24,6 @@ mark-requires c = let args = c.args in
     let few = few_marks args.st _ _ (search rules) (search rules) room c.merged-n.ensures.value in
     (few.0, (let f = few.1 in search rules), few.2)
 
-pub shape_of-raw : goal.shape_of-raw
-shape_of-raw c = c.list_left.auto.raw
-
 pub returns : goal.returns
 returns c = let args = c.args in
     report_told geometry args.st (memory args.nets1.now args.nets2.now args.ranges.now args.depths.now args.raw.now) (output args.out.now args.marks.now)
@@ -62,4 +33,4 @@ returns c = let args = c.args in
     (ap (search_with args.st.tally) (sym c.top_depth.ensures) ∙ (sym c.is_search.ensures ∙ not-false _ c.if-not-is_search.false-raw))
     _ _ _ _ _ _ _ _ c.word_of.ensures c.result.ensures c.list_left.ensures
     c.merged-n.ensures.value c.merged-n.ensures.out_after
-    c.seam1.ensures c.seam2.ensures c.mark.ensures
+    c.seam_on.ensures c.seam_on-2.ensures c.mark.ensures

@@ -1,18 +1,14 @@
--- `shifted`: the invariant says that x is m shifted by `by` places. Assumes nothing.
-use mathlib.Core.Path.{sym}
-use native.Mathlib.Nat.{mul-one}
+-- `shifted`: the zeros that lead m are shifted out. Assumes nothing.
+use mathlib.Core.Path.{sym, ap, ◌∙◌}
+use Prim.Native.Nat.{◌*◌, ◌^◌}
 use native.Mathlib.Omega.{arith}
-use borrow.Author.Rules.{rules}
-use Rattle.roots.proofs.Laws.{doubled, few}
+use Rattle.roots.proofs.Laws.{shift_of}
 use Rattle.roots.proofs.shifted.Goals as goal
 
-pub loop-x-init : goal.loop-x-init
-loop-x-init c = (sym (mul-one _), search rules, search rules, search rules)
-
-pub loop-x-preserved : goal.loop-x-preserved
-loop-x-preserved c = let l = c.loop-x in
-    let m = c.args.m in
-    (doubled m l.x l.by l.invariant.0, search rules, omega arith, few m l.x l.by l.invariant.0 (omega arith) (search rules))
+pub overflow_sub-by : goal.overflow_sub-by
+overflow_sub-by c = (shift_of c.args.m c.requires.0 c.requires.1).enough
 
 pub returns : goal.returns
-returns c = let l = c.loop-x in (l.invariant.0, omega arith, l.invariant.2, l.invariant.3)
+returns c = let m = c.args.m in
+    let s = shift_of m c.requires.0 c.requires.1 in
+    (s.kept ∙ ap (λ n. m * 2 ^ n) (sym c.from.ensures), omega (arith, s.kept, s.low), omega (arith, s.kept, s.high), omega (arith, s.few, c.from.ensures))

@@ -1,145 +1,44 @@
 -- `run` is run_def. The loop's invariant: as many turns as are left, from here, give what the whole run gives. The measure is what is left, and one more until the search stops. Assumes nothing.
-use mathlib.Core.Path.{refl, sym, ap, ◌∙◌}
-use mathlib.Core.Logic.{inl, inr}
-use borrow.Author.Tests.{not-true, not-false}
-use Rattle.states.specs.States.{memory}
-use Rattle.search.specs.declared.Stepped.{Stepped}
+use borrow.Author.Rules.{rules}
+use mathlib.Core.Bool.{false}
+use mathlib.Core.Path.{◌≡◌, sym, ap, ◌∙◌}
+use Rattle.std.proofs.Common.{Result, Err}
+use Rattle.states.specs.declared.State.{State}
+use Rattle.states.specs.declared.StepError.{StepError}
+use Rattle.states.specs.States.{memory, over}
 use Rattle.nodes.specs.Nets.{geometry}
 use Rattle.search.specs.Steps.{Stepping, stepping}
-use Rattle.search.proofs.Runs.{own_step_falls, measure_falls, some_left, run_over, run_turn, run_refused}
+use Rattle.search.proofs.Runs.{own_step_falls, measure_falls, some_left, run_turn, run_refused}
 use Rattle.search.proofs.run.Goals as goal
 
-pub loop-p-init : goal.loop-p-init
-loop-p-init c = (refl, refl, refl, refl, refl, refl, c.scratch-p.ensures.1, c.scratch-q.ensures.1)
-
-pub own_step-out-requires : goal.own_step-out-requires
-own_step-out-requires c = let loop = c.loop-p in
-    (loop.invariant.6, loop.invariant.7)
-
 pub loop-p-smaller : goal.loop-p-smaller
-loop-p-smaller c = let b =
-    c
-    in
-    let loop = b.loop-p in
-    measure_falls loop.s c.in-Next.next (sym b.ended.ensures ∙ not-true _ b.loop-p-test.true-raw)
-    (own_step_falls geometry loop.s (memory loop.nets1 loop.nets2 loop.ranges loop.depths loop.raw) _
-    (ap (λ (o : Stepping). o.answer) (sym c.own_step-out.ensures)
-    ∙ c.in-Next.is))
+loop-p-smaller c = let l = c.loop-p in
+    measure_falls l.s c.in_ok-s.s (search rules)
+    (own_step_falls geometry l.s (memory l.nets1 l.nets2 l.ranges l.depths l.raw) c.in_ok-s.s
+    (ap (λ (o : Stepping). o.answer) (sym c.own_step.ensures) ∙ c.in_ok-s.was))
 
 pub loop-p-preserved : goal.loop-p-preserved
-loop-p-preserved c = let b =
-    c
-    in
-    let loop = b.loop-p in
-    let own-step = c.own_step-out in (
-      run_turn geometry loop.s (memory loop.nets1 loop.nets2 loop.ranges loop.depths loop.raw) _
-          (memory own-step.new.nets1 own-step.new.nets2 own-step.new.ranges own-step.new.depths
-          own-step.new.raw) (sym b.ended.ensures ∙ not-true _ b.loop-p-test.true-raw)
-          (some_left loop.s (sym b.ended.ensures ∙ not-true _ b.loop-p-test.true-raw))
-          (ap (λ (r : Stepped). stepping r (memory own-step.new.nets1 own-step.new.nets2 own-step.new.ranges
-          own-step.new.depths own-step.new.raw)) (sym c.in-Next.is) ∙ own-step.ensures)
-          ∙ loop.invariant.0,
-      own-step.auto.nets1 ∙ loop.invariant.1,
-      own-step.auto.nets2 ∙ loop.invariant.2,
-      own-step.auto.ranges ∙ loop.invariant.3,
-      own-step.auto.depths ∙ loop.invariant.4,
-      own-step.auto.raw ∙ loop.invariant.5,
-      own-step.auto.p ∙ loop.invariant.6,
-      own-step.auto.q ∙ loop.invariant.7,
+loop-p-preserved c = let l = c.loop-p in
+    let o = c.own_step in
+    let runs : over l.s.tally ≡ false = search rules in (
+      run_turn geometry l.s (memory l.nets1 l.nets2 l.ranges l.depths l.raw) c.in_ok-s.s (memory o.new.nets1 o.new.nets2 o.new.ranges o.new.depths o.new.raw) runs
+          (some_left l.s runs)
+          (ap (λ (r : Result State StepError). stepping r (memory o.new.nets1 o.new.nets2 o.new.ranges o.new.depths o.new.raw)) (sym c.in_ok-s.was) ∙ o.ensures)
+          ∙ l.invariant.0,
+      o.auto.nets1 ∙ l.invariant.1,
+      o.auto.nets2 ∙ l.invariant.2,
+      o.auto.ranges ∙ l.invariant.3,
+      o.auto.depths ∙ l.invariant.4,
+      o.auto.raw ∙ l.invariant.5,
+      o.auto.p ∙ l.invariant.6,
+      o.auto.q ∙ l.invariant.7,
     )
 
-pub shape_of-nets1-in-Ended : goal.shape_of-nets1-in-Ended
-shape_of-nets1-in-Ended c = c.own_step-out.auto.nets1
-    ∙
-    c.loop-p.invariant.1
-
-pub shape_of-nets2-in-Ended : goal.shape_of-nets2-in-Ended
-shape_of-nets2-in-Ended c = c.own_step-out.auto.nets2
-    ∙
-    c.loop-p.invariant.2
-
-pub shape_of-ranges-in-Ended : goal.shape_of-ranges-in-Ended
-shape_of-ranges-in-Ended c = c.own_step-out.auto.ranges
-    ∙
-    c.loop-p.invariant.3
-
-pub shape_of-depths-in-Ended : goal.shape_of-depths-in-Ended
-shape_of-depths-in-Ended c = c.own_step-out.auto.depths
-    ∙
-    c.loop-p.invariant.4
-
-pub shape_of-raw-in-Ended : goal.shape_of-raw-in-Ended
-shape_of-raw-in-Ended c = c.own_step-out.auto.raw
-    ∙
-    c.loop-p.invariant.5
-
-pub returns-in-Ended : goal.returns-in-Ended
-returns-in-Ended c = let b =
-    c
-    in
-    let loop = b.loop-p in
-    let own-step = c.own_step-out in
-    run_refused geometry loop.s (memory loop.nets1 loop.nets2 loop.ranges loop.depths loop.raw) _
-    (memory own-step.new.nets1 own-step.new.nets2 own-step.new.ranges own-step.new.depths
-    own-step.new.raw) (sym b.ended.ensures ∙ not-true _ b.loop-p-test.true-raw) (inl refl)
-    (ap (λ (r : Stepped). stepping r (memory own-step.new.nets1 own-step.new.nets2 own-step.new.ranges
-    own-step.new.depths own-step.new.raw)) (sym c.in-Ended.is) ∙ own-step.ensures)
-    ∙ loop.invariant.0
-
-pub shape_of-nets1-in-NoRoom : goal.shape_of-nets1-in-NoRoom
-shape_of-nets1-in-NoRoom c = c.own_step-out.auto.nets1
-    ∙
-    c.loop-p.invariant.1
-
-pub shape_of-nets2-in-NoRoom : goal.shape_of-nets2-in-NoRoom
-shape_of-nets2-in-NoRoom c = c.own_step-out.auto.nets2
-    ∙
-    c.loop-p.invariant.2
-
-pub shape_of-ranges-in-NoRoom : goal.shape_of-ranges-in-NoRoom
-shape_of-ranges-in-NoRoom c = c.own_step-out.auto.ranges
-    ∙
-    c.loop-p.invariant.3
-
-pub shape_of-depths-in-NoRoom : goal.shape_of-depths-in-NoRoom
-shape_of-depths-in-NoRoom c = c.own_step-out.auto.depths
-    ∙
-    c.loop-p.invariant.4
-
-pub shape_of-raw-in-NoRoom : goal.shape_of-raw-in-NoRoom
-shape_of-raw-in-NoRoom c = c.own_step-out.auto.raw
-    ∙
-    c.loop-p.invariant.5
-
-pub returns-in-NoRoom : goal.returns-in-NoRoom
-returns-in-NoRoom c = let b =
-    c
-    in
-    let loop = b.loop-p in
-    let own-step = c.own_step-out in
-    run_refused geometry loop.s (memory loop.nets1 loop.nets2 loop.ranges loop.depths loop.raw) _
-    (memory own-step.new.nets1 own-step.new.nets2 own-step.new.ranges own-step.new.depths
-    own-step.new.raw) (sym b.ended.ensures ∙ not-true _ b.loop-p-test.true-raw) (inr refl)
-    (ap (λ (r : Stepped). stepping r (memory own-step.new.nets1 own-step.new.nets2 own-step.new.ranges
-    own-step.new.depths own-step.new.raw)) (sym c.in-NoRoom.is) ∙ own-step.ensures)
-    ∙ loop.invariant.0
-
-pub shape_of-nets1 : goal.shape_of-nets1
-shape_of-nets1 c = c.loop-p.invariant.1
-
-pub shape_of-nets2 : goal.shape_of-nets2
-shape_of-nets2 c = c.loop-p.invariant.2
-
-pub shape_of-ranges : goal.shape_of-ranges
-shape_of-ranges c = c.loop-p.invariant.3
-
-pub shape_of-depths : goal.shape_of-depths
-shape_of-depths c = c.loop-p.invariant.4
-
-pub shape_of-raw : goal.shape_of-raw
-shape_of-raw c = c.loop-p.invariant.5
-
-pub returns : goal.returns
-returns c = let loop = c.loop-p in
-    sym (run_over geometry loop.s (memory loop.nets1 loop.nets2 loop.ranges loop.depths loop.raw)
-    (sym c.ended.ensures ∙ not-false _ c.loop-p-test.false-raw)) ∙ loop.invariant.0
+pub returns-in_err-s : goal.returns-in_err-s
+returns-in_err-s c = let l = c.loop-p in
+    let o = c.own_step in
+    let m = memory o.new.nets1 o.new.nets2 o.new.ranges o.new.depths o.new.raw in
+    let is : c.from_residual.result ≡ Err c.in_err-s.field-0.0 = search rules in
+    rw is (run_refused geometry l.s (memory l.nets1 l.nets2 l.ranges l.depths l.raw) _ m (search rules)
+    (ap (λ (r : Result State StepError). stepping r m) (sym c.in_err-s.was) ∙ o.ensures)
+    ∙ l.invariant.0)

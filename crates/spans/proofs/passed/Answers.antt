@@ -1,25 +1,16 @@
--- `passed` goes on or stops as its definition does. Assumes nothing.
-use mathlib.Core.Path.{refl, ◌∙◌}
-use Prim.Native.Nat.{◌-◌}
-use native.Mathlib.Nat.{sub-zero}
+-- `passed` is its definition: the first n knots that are at most t. Assumes nothing.
+use mathlib.Core.Path.{sym, ◌∙◌}
+use native.Mathlib.Nat.{zero-add}
+use native.Mathlib.Omega.{arith}
+use lib.Ieee.{le}
+use lib.Seq.{length-take-le}
 use borrow.Author.Rules.{rules}
-use Rattle.spans.proofs.Laws as laws
+use Rattle.spans.proofs.Laws.{passed_is}
 use Rattle.spans.proofs.passed.Goals as goal
-
-pub loop-s-init : goal.loop-s-init
-loop-s-init c = (search rules, rw sub-zero refl)
-
-pub loop-s-preserved : goal.loop-s-preserved
-loop-s-preserved c = let a = c.args in
-    let l = c.loop-s in
-    (search rules, laws.passed_on a.n l.s a.t a.knots.now (search rules) c.if-knots-s.true ∙ l.invariant.1)
-
-pub returns-else-knots-s : goal.returns-else-knots-s
-returns-else-knots-s c = let a = c.args in
-    let l = c.loop-s in
-    (laws.passed_stop a.n l.s _ a.t a.knots.now (search rules) c.if-knots-s.false l.invariant.1, search rules)
 
 pub returns : goal.returns
 returns c = let a = c.args in
-    let l = c.loop-s in
-    (laws.passed_end a.n l.s _ a.t a.knots.now (search rules) l.invariant.1, search rules)
+    let n = length-take-le a.n a.knots.now c.requires in (
+      c.leading.ensures.value (λ k. le k a.t) (search rules) ∙ sym (zero-add _) ∙ passed_is a.n 0 a.t a.knots.now (omega arith),
+      omega (arith, n, c.leading.ensures.bound),
+    )

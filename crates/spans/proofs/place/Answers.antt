@@ -2,12 +2,11 @@
 use Rattle.spans.proofs.Laws.{place_open, place_closed}
 use Rattle.spans.proofs.place.Goals as goal
 
-pub returns-then-not-closed : goal.returns-then-not-closed
-returns-then-not-closed c = let a = c.args in place_open a.closed a.knots.now a.t c.if-not-closed.true-raw
+pub returns-then-closed : goal.returns-then-closed
+returns-then-closed c = let a = c.args in
+    place_closed a.closed a.knots.now a.t c.in_period-u.result c.start_unless.result c.turn_span-i.result
+    c.if-closed.true c.turn_span-i.ensures.0 c.in_period-u.ensures c.start_unless.ensures
 
-pub returns : goal.returns
-returns c = let b = c in
-    let d = b in
-    let a = d.args in
-    place_closed a.closed a.knots.now a.t b.in_period-u.result c.start_unless.result d.turn_span-i.result
-    d.if-not-closed.false-raw d.turn_span-i.ensures.0 b.in_period-u.ensures c.start_unless.ensures
+pub returns-else-closed : goal.returns-else-closed
+returns-else-closed c = let a = c.args in
+    place_open a.closed a.knots.now a.t c.if-closed.false

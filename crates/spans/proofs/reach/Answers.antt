@@ -1,25 +1,21 @@
--- `reach` goes on or stops as its definition does. Assumes nothing.
-use mathlib.Core.Path.{◌≡◌, refl, ◌∙◌}
-use Prim.Native.Nat.{◌+◌, ◌-◌}
+-- `reach` is its definition: the numbers behind `from` that are at most u. Assumes nothing.
+use mathlib.Core.Path.{ap, ◌∙◌}
+use Prim.Native.Nat.{◌+◌}
 use native.Mathlib.Omega.{arith}
+use mathlib.Core.Bool.{Bool}
+use lib.Ieee.{Float, le}
 use borrow.Author.Rules.{rules}
-use Rattle.spans.proofs.Laws as laws
+use Rattle.lists.proofs.Parts.{part_is, lent_length}
+use Rattle.spans.specs.Spans.{leading}
+use Rattle.spans.proofs.Laws.{reach_is}
 use Rattle.spans.proofs.reach.Goals as goal
-
-pub loop-s-init : goal.loop-s-init
-loop-s-init c = (search rules, search rules, let a = c.args in let k : a.from + a.n - a.from ≡ a.n = omega arith in rw k refl)
-
-pub loop-s-preserved : goal.loop-s-preserved
-loop-s-preserved c = let a = c.args in
-    let l = c.loop-s in
-    (search rules, search rules, laws.reach_on (a.from + a.n) l.s a.u a.flat.now (search rules) c.if-flat-s.true ∙ l.invariant.2)
-
-pub returns-else-flat-s : goal.returns-else-flat-s
-returns-else-flat-s c = let a = c.args in
-    let l = c.loop-s in
-    (laws.reach_stop (a.from + a.n) l.s _ a.u a.flat.now (search rules) c.if-flat-s.false l.invariant.2, search rules, search rules)
 
 pub returns : goal.returns
 returns c = let a = c.args in
-    let l = c.loop-s in
-    (laws.reach_end (a.from + a.n) l.s _ a.u a.flat.now (search rules) l.invariant.2, search rules, search rules)
+    let t : Float → Bool = λ k. le k a.u in
+    let e = c.leading.ensures.value t (search rules) in
+    let n = lent_length (a.from + 1) a.n a.flat.now (omega arith) in (
+      ap (λ k. a.from + k) (e ∙ ap (leading t) (part_is (a.from + 1) a.n a.flat.now)) ∙ reach_is a.n a.from a.u a.flat.now (omega arith),
+      omega arith,
+      omega (arith, n, c.leading.ensures.bound),
+    )

@@ -6,5 +6,4 @@ use Rattle.stretches.proofs.mark.Goals as goal
 
 pub returns : goal.returns
 returns c = let a = c.args in
-    let near = near_in a.s1 a.s2 a.out.now in
-    part_front a.n near a.marks.now _ (search rules) c.mark_all.ensures
+    part_front a.n (near_in a.s1 a.s2 a.out.now) a.marks.now _ (search rules) c.mark_all.ensures

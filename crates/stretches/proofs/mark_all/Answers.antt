@@ -1,14 +1,9 @@
 -- `mark_all` is marks_of. The invariant says that the places left give the wanted marks; the measure is how many are left. Assumes nothing.
-use mathlib.Core.Path.{refl}
-use native.Mathlib.Omega.{arith}
 use lib.ListN.{length}
 use Rattle.stretches.specs.Stretches.{near_in}
 use Rattle.stretches.proofs.Laws.{all_on, all_end}
 use borrow.Author.Rules.{rules}
 use Rattle.stretches.proofs.mark_all.Goals as goal
-
-pub loop-i-init : goal.loop-i-init
-loop-i-init c = (refl, omega arith, refl, refl)
 
 pub loop-i-preserved : goal.loop-i-preserved
 loop-i-preserved c = let l = c.loop-i in

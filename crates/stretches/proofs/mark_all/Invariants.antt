@@ -11,6 +11,3 @@ invariant-loop-i l = (length l.marks ≡ length l.initial.marks)
     × (l.i ≤ length l.initial.marks)
     × (l.initial.i ≡ length l.initial.marks)
     × (all_marks (near_in l.s1 l.s2 l.out) l.i l.marks ≡ all_marks (near_in l.s1 l.s2 l.out) l.initial.i l.initial.marks)
-
-abbrev pub decreases-loop-i : goal.decreases-loop-i
-decreases-loop-i l = l.i

@@ -1,13 +1,7 @@
 -- `mark_row` is row_marks. The invariant says that the places left give the wanted marks; the measure is how many are left. Assumes nothing.
-use mathlib.Core.Path.{refl}
-use native.Mathlib.Omega.{arith}
-use Rattle.stretches.specs.Stretches.{near_in}
-use Rattle.stretches.proofs.Laws.{row_link, row_skip, row_done}
+use Rattle.stretches.proofs.Laws.{row_link, row_skip}
 use borrow.Author.Rules.{rules}
 use Rattle.stretches.proofs.mark_row.Goals as goal
-
-pub loop-j-init : goal.loop-j-init
-loop-j-init c = (refl, omega arith, refl)
 
 pub loop-j-preserved-then-neighbours : goal.loop-j-preserved-then-neighbours
 loop-j-preserved-then-neighbours c = let l = c.loop-j in
@@ -28,6 +22,3 @@ loop-j-preserved c = let l = c.loop-j in
     let q = c.load.ensures in
     let near = c.neighbours.ensures in
     (search rules, search rules, row_skip a.s1 a.s2 _ a.i l.j _ _ _ r q near l.marks _ (search rules) c.if-neighbours.false l.invariant.2)
-
-pub returns : goal.returns
-returns c = let a = c.args in row_done (near_in a.s1 a.s2 a.out.now) a.i c.loop-j.j _ _ (search rules) c.loop-j.invariant.2

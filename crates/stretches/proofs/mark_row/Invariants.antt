@@ -10,6 +10,3 @@ abbrev pub invariant-loop-j : goal.invariant-loop-j
 invariant-loop-j l = (length l.marks ≡ length l.initial.marks)
     × (l.j ≤ l.i)
     × (row_marks (near_in l.s1 l.s2 l.out) l.i l.j l.marks ≡ row_marks (near_in l.s1 l.s2 l.out) l.i l.i l.initial.marks)
-
-abbrev pub decreases-loop-j : goal.decreases-loop-j
-decreases-loop-j l = l.j

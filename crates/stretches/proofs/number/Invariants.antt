@@ -8,6 +8,3 @@ use Rattle.stretches.proofs.number.Given as goal
 
 abbrev pub invariant-loop-k : goal.invariant-loop-k
 invariant-loop-k l = (length l.marks ≡ length l.initial.marks) × (take l.k l.marks ++ count_from l.k (length l.initial.marks - l.k) ≡ count_from 0 (length l.initial.marks))
-
-abbrev pub decreases-loop-k : goal.decreases-loop-k
-decreases-loop-k l = length l.initial.marks - l.k

@@ -1,7 +1,6 @@
 -- Digits from the last one on: those written and those to come are the wanted ones at each turn. Assumes nothing.
 use borrow.Author.Rules.{rules}
 use mathlib.Core.Path.{◌∙◌}
-use Prim.Native.Nat.{◌-◌}
 use native.Mathlib.Nat.{mod-lt}
 use native.Mathlib.Omega.{arith}
 use Rattle.texts.proofs.Laws.{digits_turn, digits_none, digits_start}

@@ -4,8 +4,8 @@ use lib.ListN.{length}
 use Rattle.walks.proofs.Charts.{Passed}
 use Rattle.walks.proofs.lines_after.Given as goal
 
-abbrev pub invariant-loop-range : goal.invariant-loop-range
-invariant-loop-range l = (l.place ≤ length l.s) × (l.count ≤ l.place) × Passed l.s l.at l.place l.count
+abbrev pub invariant-loop-place : goal.invariant-loop-place
+invariant-loop-place l = (l.place ≤ length l.s) × (l.count ≤ l.place) × Passed l.s l.at l.place l.count
 
-abbrev pub decreases-loop-range : goal.decreases-loop-range
-decreases-loop-range l = length l.s - l.place
+abbrev pub decreases-loop-place : goal.decreases-loop-place
+decreases-loop-place l = length l.s - l.place

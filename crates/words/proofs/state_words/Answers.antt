@@ -7,12 +7,10 @@ pub overflow_cast-result-10 : goal.overflow_cast-result-10
 overflow_cast-result-10 c = omega (arith, c.struct_known-10-1.given.1.1.1.1.1.1.1.1.1.1.1)
 
 pub returns : goal.returns
-returns c = let p = c in
-    let st = p.args.st in
+returns c = let st = c.args.st in
     let k = c.struct_known-10-1.given in (
-      words_are st p.wide.ensures p.wide-2.ensures p.flag.ensures p.pattern.ensures
-          (last_words_lem st c.flag-2.ensures c.flag-3.ensures
-          c.pattern-2.ensures c.pattern-3.ensures c.pattern-4.ensures c.pattern-5.ensures),
+      words_are st c.from.ensures c.from-2.ensures c.from-3.ensures c.pattern.ensures
+          (last_words_lem st c.from-4.ensures c.from-5.ensures c.pattern-2.ensures c.pattern-3.ensures c.pattern-4.ensures c.pattern-5.ensures),
       counts_fit_lem st k,
       tags_fit_lem st k,
     )

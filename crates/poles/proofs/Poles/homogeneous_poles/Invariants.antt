@@ -1,13 +1,12 @@
 -- The poles before pole `i` are filled, and what is to come fills the rest. Assumes nothing.
-use Rattle.std.proofs.Common.{◌-◌, ◌≡◌, ◌*◌, ◌≤◌, length, take}
+use Rattle.std.proofs.Common.{◌-◌, ◌≡◌, ◌*◌, length, take}
 use mathlib.Core.List.{◌++◌}
-use Rattle.poles.specs.Poles.{homogeneous_poles}
+use Rattle.poles.specs.Poles.{pole_count, homogeneous_poles}
 use Rattle.poles.proofs.Poles.homogeneous_poles.Given as goal
 
 abbrev pub invariant-loop-i : goal.invariant-loop-i
-invariant-loop-i l =
-    (l.i ≤ l.n) × (length l.out ≡ 512)
-    × (take (4 * l.i) l.out ++ homogeneous_poles l.self.coords.now l.self.weights.now (l.n - l.i) l.i ≡ homogeneous_poles l.self.coords.now l.self.weights.now l.n 0)
-
-abbrev pub decreases-loop-i : goal.decreases-loop-i
-decreases-loop-i l = l.n - l.i
+invariant-loop-i l = record {
+  room : length l.out ≡ 512;
+  filled : take (4 * l.i) l.out ++ homogeneous_poles l.self.coords.now l.self.weights.now (pole_count l.self.coords.now - l.i) l.i
+      ≡ homogeneous_poles l.self.coords.now l.self.weights.now (pole_count l.self.coords.now) 0;
+}
