@@ -51,7 +51,7 @@ for paper in ["README.md", *sorted(str(p.relative_to(ROOT)) for p in ROOT.glob("
     text = (ROOT / paper).read_text()
     if re.search(r"https?://", text):
         bad.append(f"{paper} names a host")
-# halving works in its two slots (document 02, M-102): it makes and takes no array, and is lent the net slice alone
+# halving works in its two slots (document 02, M-102): it makes and takes no array, and is lent parts of the net slice alone
 for signature in ("fn halve(upper: &mut [f64], lower: &mut [f64], w: usize)\n", "pub fn halve_slot(s: &mut [f64], k: usize, w: usize)\n"):
     if signature not in (ROOT / "crates/nets/src/lib.rt").read_text():
         bad.append(f"crates/nets/src/lib.rt has no {signature.strip()}")
