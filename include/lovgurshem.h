@@ -23,8 +23,8 @@
  *
  * STACK, as measured, with a margin: lovgurshem_answer and lovgurshem_next want
  * 640 KB, however many lines a chart has, lovgurshem_open and lovgurshem_examine
- * 80 KB, the others 16 KB. Of the C library memcpy, memmove and memset are
- * called, and nothing else.
+ * 80 KB, the others 16 KB. Of the C library memcpy and memset are called, and
+ * nothing else.
  *
  * NUMBERS. Answers of examine, open, step, run and report are 0, or the number
  * of the refusal: 4 to 14 and 22 a line's fault, 23 lines that are not of one

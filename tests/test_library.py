@@ -1,5 +1,5 @@
 """The examples in C and in Rust, built against the library, print what the program prints for the same lines (examples/track.sheet) and for a chart
-(examples/chart.sheet), and the header compiles alone in C and in C++. The expected texts are tests/library.txt and tests/chart.txt."""
+(examples/chart.sheet), the header compiles alone in C and in C++, and the library calls nothing from outside but what the header says. The expected texts are tests/library.txt and tests/chart.txt."""
 import pathlib
 import shutil
 import subprocess
@@ -41,6 +41,11 @@ with tempfile.TemporaryDirectory() as folder:
         run("examples/rust", ["rustc", "-O", "--edition", "2021", "-L", LIBRARY.parent, "-o", top / "rust", ROOT / "examples/rust/main.rs"], top / "rust", SHEETS)
     else:
         print("library: no rustc with a linker here, examples/rust not run")
+if shutil.which("nm"):
+    listed = subprocess.run(["nm", "-u", LIBRARY], stdout=subprocess.PIPE, text=True, check=True).stdout
+    called = {line.split()[-1] for line in listed.splitlines() if line.split()[:1] == ["U"]}
+    if called - {"memcpy", "memset"}:
+        bad.append(f"the library calls {', '.join(sorted(called))}, the header says memcpy and memset")
 for line in bad:
     print(line)
 sys.exit(1 if bad else 0)

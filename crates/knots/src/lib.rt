@@ -48,7 +48,7 @@ pub fn flat_turn(flat: &[f64], n: usize, p: usize, period: f64, out: &mut [f64])
     let end = p + flat.len();
     let behind = p + 1;
     shift(&flat[before..n], -period, &mut out[..p]);
-    out[p..end].copy_from_slice(flat);
+    lists::copy_from_slice(&mut out[p..end], flat);
     shift(&flat[m..behind], period, &mut out[end..]);
 }
 
@@ -126,7 +126,7 @@ pub fn unrolled(knots: &[f64], out: &mut [f64]) -> usize
     let n = knots.len();
     let end = n + (n - 1);
     let period = knots[n - 1] - knots[0];
-    out[..n].copy_from_slice(knots);
+    lists::copy_from_slice(&mut out[..n], knots);
     shift(&knots[1..], period, &mut out[n..end]);
     end
 }

@@ -11,4 +11,4 @@ pub returns : goal.returns
 returns c = let f = c in
     let s = f in
     let a = s.args in
-    laws.turn_built a.p a.n a.period a.flat.now _ _ _ _ _ (omega arith) (omega arith) s.shift.ensures f.copy_from_slice.ensures.after c.shift-2.ensures
+    laws.turn_built a.p a.n a.period a.flat.now _ _ _ _ _ (omega arith) (omega arith) s.shift.ensures f.copy_from_slice.ensures c.shift-2.ensures
