@@ -210,7 +210,7 @@ impl Chart<'_> {
     {
         let l = walks::line_at(self.bytes, at);
         let q = self.question(l);
-        sheet::answer_pair(self.bytes, q, self.parts.first, l, out)
+        sheet::answer_pair(self.bytes, q, self.parts.first, l, out).length
     }
 
     // The report of line `k`, counted from 0.
@@ -299,7 +299,10 @@ fn pair_start(s: &[u8], w: PairPlaces, out: &mut [u8]) -> Instalment
         w.first.datum,
         w.second.datum,
     );
-    no_more(sheet::answer_pair(s, q, w.first, w.second, out), true)
+    no_more(
+        sheet::answer_pair(s, q, w.first, w.second, out).length,
+        true,
+    )
 }
 
 // Instalment `k`, counted from 0, of the answer to any bytes, from the front of `out`; `good` is what the instalment before it answered. The tests of a chart

@@ -1,5 +1,5 @@
 -- What is printed for two lines and a question (document 01, "Sheet program"). Definitions only.
-use Rattle.std.specs.Prelude.{ℕ, ◌+◌, ◌*◌, List, ◌++◌, take, replicate, Float, Result, Ok, Err}
+use Rattle.std.specs.Prelude.{◌≡◌, ℕ, ◌+◌, ◌*◌, List, ◌++◌, take, replicate, Float, Result, Ok, Err}
 use Rattle.floats.specs.Floats.{zero64}
 use Rattle.lines.specs.Lines.{Line as Given, Question, line_of}
 use Rattle.walks.specs.declared.Line.{Line}
@@ -18,7 +18,9 @@ use Rattle.opening.specs.declared.Question.{Question as Asking}
 use Rattle.opening.specs.declared.OpenError.{OpenError}
 use Rattle.opening.specs.Opens.{open_error_number, open_error_line, line_number, open_def}
 use Rattle.printing.specs.Printed.{counts_length, region_length, count_line, region_lines, refusal_line}
+use Rattle.texts.specs.Texts.{Wrote}
 use Rattle.sheet.specs.declared.LineRoom.{LineRoom}
+use Rattle.sheet.specs.declared.Pair.{Pair}
 
 -- ---- "It lends 8,112 floats a line for pieces, 7,904 a line for nets, 304 for ranges, 76 depths", now "152", "8,190 each for raw and report"; marks, "the sheet program lends 819": zeros
 unfoldable pub zeros : ℕ → List Float
@@ -61,13 +63,17 @@ abbrev pub opened_text : Result State OpenError → Memory → Output → List �
 opened_text (Ok x) u out = search_text x u out
 opened_text (Err e) u out = refusal_line (open_error_number e) (line_number (open_error_line e))
 
--- two lines and the question, opened on the lent memory (`answer_lines`, `answer_pair`)
+-- two lines and the question, opened on the lent memory (`answer_lines`)
 unfoldable pub lines_text : Question → List ℕ
 lines_text q = let o = open_def q (zeros 8112) (zeros 8112) lent in opened_text o.answer o.memory lent_output
 
 -- what the opening on the lent memory answers (`open_lines`, `opens`)
 unfoldable pub opened_on : Question → Result State OpenError
 opened_on q = (open_def q (zeros 8112) (zeros 8112) lent).answer
+
+-- the answer to two lines: what the opening says, which tells a refusal's number and line, and the text from the buffer's front (`answer_lines`, `answer_pair`)
+abbrev pub Answered : Question → List ℕ → List ℕ → Pair → Type 0
+Answered q before after r = (r.opened ≡ opened_on q) × Wrote before 0 (lines_text q) after r.length
 
 -- ---- two lines and their question, read from a sheet
 -- the line of these places whose numbers were read into this room (`LineRoom::read`, `LineRoom::line`)

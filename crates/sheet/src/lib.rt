@@ -9,12 +9,19 @@ ghost use Rattle.report.specs.Reports.{output};
 ghost use Rattle.walks.specs.Places.{line_in, LineInside};
 ghost use Rattle.texts.specs.Texts.{Wrote};
 ghost use Rattle.printing.specs.Printed.{refusal_length, refusal_line};
-ghost use Rattle.sheet.specs.Answers.{lent_regions, longest, report_text, search_text, lines_text, opened_on, range_at, asking_at, held_line};
+ghost use Rattle.sheet.specs.Answers.{lent_regions, longest, report_text, search_text, opened_on, range_at, asking_at, held_line, Answered};
 
 use lines::Line;
 use opening::{OpenError, Question};
 use points::Interval;
 use states::State;
+
+// The answer to two lines: what their opening says, and how many bytes of text were written.
+#[derive(Clone, Copy)]
+pub struct Pair {
+    pub opened: Result<State, OpenError>,
+    pub length: usize,
+}
 
 // Room for a line's numbers: as many floats, and words, as a sheet of 16,384 bytes can hold.
 #[derive(Drop)]
@@ -115,9 +122,9 @@ fn open_lines(q: Question, l1: Line, l2: Line) -> Result<State, OpenError>
 }
 
 // The opening, the search and its report on memory of their own.
-fn answer_lines(q: Question, l1: Line, l2: Line, out: &mut [u8]) -> usize
+fn answer_lines(q: Question, l1: Line, l2: Line, out: &mut [u8]) -> Pair
     requires { longest ≤ length out.old }
-    ensures { Wrote out.old 0 (lines_text (question_of q (seen l1.entry) (seen l2.entry))) out.new result }
+    ensures { Answered (question_of q (seen l1.entry) (seen l2.entry)) out.old out.new result }
 {
     let mut pieces1 = [0.0f64; 8112];
     let mut pieces2 = [0.0f64; 8112];
@@ -128,7 +135,7 @@ fn answer_lines(q: Question, l1: Line, l2: Line, out: &mut [u8]) -> usize
     let mut raw = [0.0f64; 8190];
     let mut list = [0.0f64; 8190];
     let mut marks = [0u32; 819];
-    match opening::open(
+    let opened = opening::open(
         q,
         l1,
         l2,
@@ -139,7 +146,8 @@ fn answer_lines(q: Question, l1: Line, l2: Line, out: &mut [u8]) -> usize
         &mut ranges,
         &mut depths,
         &raw,
-    ) {
+    );
+    let length = match opened {
         Ok(st) => answer_search(
             st,
             &mut nets1,
@@ -152,7 +160,8 @@ fn answer_lines(q: Question, l1: Line, l2: Line, out: &mut [u8]) -> usize
             out,
         ),
         Err(e) => put_error(out, e),
-    }
+    };
+    Pair { opened, length }
 }
 
 // ---- from a sheet's bytes to two lines
@@ -243,18 +252,18 @@ pub fn opens(
     open_lines(q, room1.line(first), room2.line(second))
 }
 
-// The answer to two lines that stand in a sheet, searched and printed.
+// The answer to two lines that stand in a sheet, searched and printed, with what their opening says: of a refusal its number and line.
 pub fn answer_pair(
     s: &[u8],
     q: Question,
     first: walks::Line,
     second: walks::Line,
     out: &mut [u8],
-) -> usize
+) -> Pair
     requires { (longest ≤ length out.old) × (length s.now ≤ 16384) × LineInside (length s.now) first × LineInside (length s.now) second }
     ensures { let l1 = line_in s.now first in
         let l2 = line_in s.now second in
-        Wrote out.old 0 (lines_text (question_of q l1 l2)) out.new result }
+        Answered (question_of q l1 l2) out.old out.new result }
 {
     let mut room1 = EMPTY;
     let mut room2 = EMPTY;

@@ -12,4 +12,4 @@ answer_pair-requires c = let self = c.args.self in
 
 pub returns : goal.returns
 returns c = let self = c.args.self in
-    printed_as c.args.out.now (pair_is self.bytes.now c.args.at c.line_at-l.ensures self.parts c.question-q.ensures) c.answer_pair.ensures
+    printed_as c.args.out.now (pair_is self.bytes.now c.args.at c.line_at-l.ensures self.parts c.question-q.ensures) c.answer_pair.ensures.1
