@@ -9,6 +9,20 @@ ghost use Rattle.charts.specs.Answers.{answer_of};
 use std::io;
 use std::io::Write;
 
+// A word more than the longest sheet, so that a longer input is seen to be one.
+fn sheet_room() -> [u8; 16388]
+    ensures { length result ≡ 16388 }
+{
+    [0u8; 16388]
+}
+
+// The longest instalment: what `print_answer` promises rests on this.
+fn answer_room() -> [u8; 162446]
+    ensures { length result ≡ longest }
+{
+    [0u8; 162446]
+}
+
 // An instalment on standard output; whether that took the whole of it, and a line on standard error where it didn't.
 fn print_part<W: Write, E: Write>(to: &mut W, errors: &mut E, text: &[u8]) -> bool
     ensures { result ≡ true → Appends (W.contents to.old) (W.contents to.new) text.now }
@@ -43,10 +57,8 @@ fn print_answer<W: Write, E: Write>(to: &mut W, errors: &mut E, s: &[u8], out: &
 }
 
 fn main(rt: HostRuntime) -> io::Result<()> {
-    // A word more than the longest sheet, so that a longer input is seen to be one.
-    let mut s = [0u8; 16388];
-    // The longest instalment.
-    let mut out = [0u8; 162446];
+    let mut s = sheet_room();
+    let mut out = answer_room();
     let n = streams::read_full(&mut rt.stdin(), &mut s);
     print_answer(&mut rt.stdout(), &mut rt.stderr(), &s[..n], &mut out);
     Ok(())
