@@ -19,9 +19,12 @@ fn read_float<R: Read>(from: &mut R) -> f64 {
     patterns::float(read_word(from))
 }
 
-// Sixteen hexadecimal digits and a space.
+// Sixteen hexadecimal digits and a space in one write: standard output has no buffer, and `write!` hands it each part by itself.
 fn print_bits<W: Write>(to: &mut W, x: f64) -> io::Result<()> {
-    write!(to, "{:016X} ", patterns::pattern(x))
+    let mut text = [b' '; 17];
+    let mut digits = &mut text[..16];
+    write!(digits, "{:016X}", patterns::pattern(x))?;
+    to.write_all(&text)
 }
 
 fn print_net<W: Write>(to: &mut W, s: &[f64]) -> io::Result<()> {

@@ -24,6 +24,13 @@ struct Header {
     weights: usize,
 }
 
+// Reads the whole of `bytes` at once, since standard input has no buffer: whether the input had so many.
+fn read_whole<R: Read>(from: &mut R, bytes: &mut [u8]) -> bool
+    ensures { length bytes.new ≡ length bytes.old }
+{
+    streams::read_full(from, bytes) == bytes.len()
+}
+
 fn read_word<R: Read>(from: &mut R) -> Option<u32> {
     let mut bytes = [0u8; 4];
     if streams::read_full(from, &mut bytes) < 4 {
@@ -43,11 +50,16 @@ fn read_float<R: Read>(from: &mut R) -> Option<f64> {
 fn read_header<R: Read>(from: &mut R) -> Option<Header>
     ensures { IfSome result Fits }
 {
-    let degree = read_word(from)?;
-    let knots = read_word(from)? as usize;
-    let mults = read_word(from)? as usize;
-    let coords = read_word(from)? as usize;
-    let weights = read_word(from)? as usize;
+    let mut bytes = [0u8; 20];
+    if !read_whole(from, &mut bytes) {
+        return None;
+    }
+    let mut words: &[u8] = &bytes;
+    let degree = read_word(&mut words)?;
+    let knots = read_word(&mut words)? as usize;
+    let mults = read_word(&mut words)? as usize;
+    let coords = read_word(&mut words)? as usize;
+    let weights = read_word(&mut words)? as usize;
     if knots > 130 || mults > 130 || coords > 400 || weights > 130 {
         return None;
     }
@@ -80,12 +92,15 @@ fn read_line<R: Read>(from: &mut R, floats: &mut [f64], mults: &mut [u32]) -> Op
     ensures { IfSome result Fits }
 {
     let h = read_header(from)?;
-    fill(
-        from,
-        &mut floats[..h.knots + h.coords + h.weights + 2],
-        read_float,
-    )?;
-    fill(from, &mut mults[..h.mults], read_word)?;
+    let count = h.knots + h.coords + h.weights + 2;
+    let mut bytes = [0u8; 5816];
+    let held = &mut bytes[..8 * count + 4 * h.mults];
+    if !read_whole(from, held) {
+        return None;
+    }
+    let mut numbers: &[u8] = held;
+    fill(&mut numbers, &mut floats[..count], read_float)?;
+    fill(&mut numbers, &mut mults[..h.mults], read_word)?;
     Some(h)
 }
 
@@ -119,10 +134,18 @@ fn print_refusal<W: Write>(to: &mut W, number: u8, line: u8) -> io::Result<()> {
     writeln!(to, "refused {number} {line}")
 }
 
+// A space and the float's sixteen digits in one write: standard output has no buffer, and `write!` hands it each part by itself.
+fn print_float<W: Write>(to: &mut W, x: f64) -> io::Result<()> {
+    let mut text = [b' '; 17];
+    let mut digits = &mut text[1..];
+    write!(digits, "{:016X}", patterns::pattern(x))?;
+    to.write_all(&text)
+}
+
 fn print_net<W: Write>(to: &mut W, line: u8, number: usize, net: &[f64]) -> io::Result<()> {
     write!(to, "piece {line} {number}")?;
     for x in net {
-        write!(to, " {:016X}", patterns::pattern(*x))?;
+        print_float(to, *x)?;
     }
     to.write_all(b"\n")
 }
@@ -171,8 +194,13 @@ fn run_question<R: Read, W: Write>(from: &mut R, to: &mut W) -> Option<io::Resul
     let mut mults2 = [0u32; 130];
     let h1 = read_line(from, &mut floats1, &mut mults1)?;
     let h2 = read_line(from, &mut floats2, &mut mults2)?;
-    let gap = read_float(from)?;
-    let splits = read_word(from)?;
+    let mut bytes = [0u8; 12];
+    if !read_whole(from, &mut bytes) {
+        return None;
+    }
+    let mut numbers: &[u8] = &bytes;
+    let gap = read_float(&mut numbers)?;
+    let splits = read_word(&mut numbers)?;
     Some(answer(
         to,
         line(h1, &floats1, &mults1),

@@ -18,9 +18,17 @@ fn root_pattern(bytes: &[u8]) -> u64
     patterns::pattern(roots::sqrt(patterns::float_of_bytes(bytes)))
 }
 
+// Sixteen hexadecimal digits and the line's end in one write: standard output has no buffer, and `writeln!` hands it each part by itself.
+fn print_line<W: Write>(to: &mut W, n: u64) -> io::Result<()> {
+    let mut line = [b'\n'; 17];
+    let mut digits = &mut line[..16];
+    write!(digits, "{n:016X}")?;
+    to.write_all(&line)
+}
+
 fn print_roots<W: Write>(to: &mut W, s: &[u8]) -> io::Result<()> {
     for bytes in s.chunks_exact(8) {
-        writeln!(to, "{:016X}", root_pattern(bytes))?;
+        print_line(to, root_pattern(bytes))?;
     }
     Ok(())
 }
